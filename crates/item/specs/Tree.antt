@@ -1,0 +1,48 @@
+-- Trees: what a text says, before it is asked whether it is a scenario. Assumes nothing.
+use Prim.Native.Nat.{ℕ, suc, max}
+use mathlib.Core.List.{List}
+use mathlib.Core.Bool.{Bool}
+use lib.IntN.{ℤ}
+
+-- a value, the items of a sequence, the entries of a mapping: three shapes of one family, so that one function serves them all
+pub data Shape : Type 0 where
+  one many keyed : Shape
+
+pub data Node : Shape → Type 0 where
+  null : Node one
+  bool : Bool → Node one
+  int : ℤ → Node one
+  str : List ℕ → Node one
+  seq : Node many → Node one
+  dict : Node keyed → Node one
+  end : Node many
+  _▸_ : Node one → Node many → Node many
+  done : Node keyed
+  pair : List ℕ → Node one → Node keyed → Node keyed
+
+infixr 30 _▸_
+abbrev pub Yaml : Type 0
+Yaml = Node one
+
+abbrev pub Items : Type 0
+Items = Node many
+
+abbrev pub Entries : Type 0
+Entries = Node keyed
+
+-- how deep collections nest; the outermost is level 1
+unfoldable pub levels : {s : Shape} → Node s → ℕ
+levels null = 0
+levels (bool b) = 0
+levels (int z) = 0
+levels (str s) = 0
+levels (seq ys) = suc (levels ys)
+levels (dict es) = suc (levels es)
+levels end = 0
+levels (y ▸ ys) = max (levels y) (levels ys)
+levels done = 0
+levels (pair k v es) = max (levels v) (levels es)
+
+unfoldable pub Tree-open : Unit {0}
+unfolding levels
+Tree-open = tt

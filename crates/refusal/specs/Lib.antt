@@ -1,0 +1,3 @@
+pub mod Base
+pub mod Told
+pub mod Tools

@@ -1,0 +1,24 @@
+-- `say_whites` is safe and ends: its number stays within the range. Assumes nothing.
+use borrow.Author.Needs.{needs}
+use Prim.Native.Nat.{_-_, _≤_}
+use Rattle.replay_utf8.proofs.say_whites.Statement.{statement}
+use Rattle.replay_utf8.proofs.say_whites.Tie as tie
+
+abbrev Inv-loop : tie.InvT-loop
+Inv-loop c₀ c = c ≤ 0x120000
+
+abbrev μ-loop : tie.MeasureT-loop
+μ-loop c₀ c = 0x120000 - c
+
+pub say-whites-spec : {M : Type 1} → statement M
+say-whites-spec =
+    tie.close
+    (tie.spec
+    Inv-loop
+    μ-loop
+    (λ c. search needs)
+    (λ c κs. search needs)
+    (λ c. search needs)
+    (λ c. search needs)
+    (λ c. search needs)
+    (λ c. search needs))
