@@ -1,17 +1,16 @@
 -- The round trip: what is encoded is decoded to the same tree, so that no encoding is the front of another. Assumes nothing.
 use mathlib.Core.Path.{_≡_, refl, sym, ap, _∙_}
-use Prim.Native.Nat.{ℕ, zero, suc, _+_, _-_, _*_, _/_, _%_, _^_, _≤_, _<_}
+use Prim.Native.Nat.{ℕ, zero, suc, _+_, _-_, _/_, _^_, _≤_, _<_}
 use native.Mathlib.Nat.{pow-suc, le-refl}
 use native.Mathlib.Omega.{arith}
 use mathlib.Core.List.{List, [], _∷_, _++_, append-assoc}
-use mathlib.Core.Bool.{Bool, true, false}
+use mathlib.Core.Bool.{true, false}
 use mathlib.Core.Option.{Option, none, some, Option·some-injective}
-use lib.Dec.{leb, ltb, eqb}
 use lib.ListN.{length, take, drop, length-append}
 use lib.Seq.{take-at, drop-at}
 use lib.Signed.{mag}
 use lib.IntN.{ℤ, pos, negsuc}
-use borrow.Author.Tests.{le-leb, lt-ltb, le-ltb, eq-eqb}
+use borrow.Author.Tests.{le-leb, lt-ltb, le-ltb}
 use Rattle.refusal.specs.Base.{if_then_else_}
 use Rattle.item.specs.Tree.{Shape, one, many, keyed, Node, Yaml, null, bool, int, str, seq, dict, end, _▸_, done, pair, levels}
 use Rattle.item.specs.Encode.{le, number, head, item, flag, twos, encode}

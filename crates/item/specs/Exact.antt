@@ -10,10 +10,10 @@ use lib.Dec.{leb, ltb, eqb}
 use lib.ListN.{length, take, drop, take-append-drop, length-drop}
 use lib.Seq.{length-take-le, drop-drop}
 use lib.IntN.{ℤ, pos, negsuc}
-use borrow.Author.Tests.{leb-true, eqb-true, ltb-true, ltb-false}
+use borrow.Author.Tests.{leb-true, eqb-true}
 use Rattle.refusal.specs.Base.{if_then_else_}
 use Rattle.refusal.specs.Tools.{chosen}
-use Rattle.item.specs.Tree.{Shape, Node, Yaml, null, bool, int, str, seq, dict, Items, end, _▸_, Entries, done, pair}
+use Rattle.item.specs.Tree.{Shape, Node, Yaml, null, Items, Entries}
 use Rattle.item.specs.Encode.{le, number, head, item, flag, twos, encode}
 use Rattle.item.specs.Decode.{_>>=_, Decoder, header, unflag, untwos, nothing, unint, unkey, decodeItems, decodeEntries, contentOf, node, decode}
 

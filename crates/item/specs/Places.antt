@@ -4,9 +4,9 @@ use Prim.Native.Nat.{ℕ, suc, _+_, _-_, _*_, _≤_, _<_, _^_}
 use native.Mathlib.Numerals.{towards-suc}
 use native.Mathlib.Omega.{arith}
 use mathlib.Core.List.{List, _∷_, _++_, append-assoc}
-use mathlib.Core.Bool.{Bool, true, false, _&&_}
+use mathlib.Core.Bool.{Bool, true, false}
 use mathlib.Core.Option.{Option, none, some}
-use lib.Dec.{ltb, leb}
+use lib.Dec.{ltb}
 use lib.ListN.{length, take, drop, getD, length-drop, length-append}
 use lib.Seq.{drop-cons, drop-drop}
 use borrow.Author.Tests.{lt-ltb, le-ltb, le-leb, lt-leb, ltb-true, ltb-false}

@@ -1,7 +1,6 @@
 // Items, the bytes that trees and records are made of: content length (4 bytes), kind (2 bytes), both little-endian, then the content.
 ghost use mathlib.Core.Path.{_≡_};
-ghost use mathlib.Core.List.{_++_, _∷_, []};
-ghost use Prim.Native.Nat.{_+_, _≤_, _<_, _^_};
+ghost use Prim.Native.Nat.{_+_, _≤_, _<_};
 ghost use lib.ListN.{length, take, drop, replicate};
 ghost use lib.Seq.{sets};
 ghost use Rattle.refusal.specs.Base.{same};

@@ -2,20 +2,11 @@
 ghost use Prim.Native.Nat.{_≤_};
 ghost use lib.ListN.{length};
 use item::Header;
-use libc::STDOUT_FILENO;
+use replay::print;
+use replay::print_number;
 
-fn print(text: &[u8]) {
-    io::write_all(STDOUT_FILENO, text);
-}
-
-fn wide(b: u8) -> u64 {
-    b as u64
-}
-
-fn print_bytes(bytes: &[u8]) {
-    for i in 0..bytes.len() {
-        io::print_hex(STDOUT_FILENO, wide(bytes[i]), 2);
-    }
+fn print_line(bytes: &[u8]) {
+    replay::print_bytes(bytes);
     print(b"\n");
 }
 
@@ -23,14 +14,14 @@ fn print_bytes(bytes: &[u8]) {
 fn print_int(negative: bool, magnitude: u64) {
     let mut out = [7u8; 16];
     item::put_int(&mut out, 1, negative, magnitude);
-    print_bytes(&out);
+    print_line(&out);
 }
 
 fn print_small(value: bool) {
     let mut out = [7u8; 16];
     item::put_bool(&mut out, 1, value);
     item::put_null(&mut out, 9);
-    print_bytes(&out);
+    print_line(&out);
 }
 
 fn print_string(s: &[u8]) {
@@ -39,25 +30,25 @@ fn print_string(s: &[u8]) {
     }
     let mut out = [7u8; 16];
     item::put_string(&mut out, 1, s);
-    print_bytes(&out);
+    print_line(&out);
 }
 
 fn print_zeros(out: &mut [u8], from: usize, to: usize)
     requires { ⌜ (from ≤ to) × (to ≤ length (now out)) ⌝ }
 {
     item::zero_bytes(&mut out[from..to]);
-    print_bytes(out);
+    print_line(out);
 }
 
 fn print_header(s: &[u8], at: usize) {
     match item::header_at(s, at) {
         Header::Item { kind, from, to } => {
             print(b"item ");
-            io::print_decimal(STDOUT_FILENO, kind as u64);
+            print_number(kind as u64);
             print(b" ");
-            io::print_decimal(STDOUT_FILENO, from as u64);
+            print_number(from as u64);
             print(b" ");
-            io::print_decimal(STDOUT_FILENO, to as u64);
+            print_number(to as u64);
             print(b"\n");
         }
         Header::Cut => print(b"cut\n"),

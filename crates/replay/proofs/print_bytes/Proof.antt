@@ -2,14 +2,14 @@
 use borrow.Author.Needs.{needs}
 use Prim.Native.Nat.{_≤_, _-_}
 use lib.ListN.{length}
-use Rattle.replay_item.proofs.print_bytes.Statement.{statement}
-use Rattle.replay_item.proofs.print_bytes.Tie as tie
+use Rattle.replay.proofs.print_bytes.Statement.{statement}
+use Rattle.replay.proofs.print_bytes.Tie as tie
 
 abbrev Inv-loop : tie.InvT-loop
-Inv-loop bytes i₀ t3 i-end i = i-end ≤ length bytes
+Inv-loop bytes i₀ i-end i = i-end ≤ length bytes
 
 abbrev μ-loop : tie.MeasureT-loop
-μ-loop bytes i₀ t3 i-end i = i-end - i
+μ-loop bytes i₀ i-end i = i-end - i
 
 pub print-bytes-spec : {M : Type 1} → statement M
 print-bytes-spec =
@@ -24,6 +24,4 @@ print-bytes-spec =
     (λ c. search needs)
     (λ c. search needs)
     (λ c. search needs)
-    (λ c. search needs)
-    (λ c κs. search needs)
     (λ c. search needs))

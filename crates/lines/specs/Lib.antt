@@ -1,0 +1,6 @@
+pub mod Lines
+pub mod Table
+pub mod Places
+pub mod Laws
+pub mod TableLaws
+pub mod StepLaws

@@ -1,0 +1,62 @@
+-- The table of line entries, and what it means that a step of the scan filled it. Assumes nothing.
+use mathlib.Core.Path.{_≡_}
+use Prim.Native.Nat.{ℕ, zero, suc, _+_, _*_, _-_, _≤_, _<_}
+use mathlib.Core.List.{List, [], _∷_, _++_}
+use lib.ListN.{length, getD}
+use Rattle.refusal.specs.Base.{Answer, good, _>>=_}
+use Rattle.refusal.specs.Told.{refusal}
+use Rattle.utf8.specs.Part.{part}
+use Rattle.lines.specs.declared.Step.{Step}
+use Rattle.lines.specs.declared.Step.the-variants.{Next, Refused as Stopped}
+use Rattle.lines.specs.declared.LinesAnswer.{LinesAnswer}
+use Rattle.lines.specs.declared.LinesAnswer.the-variants.{Read, Refused}
+use Rattle.lines.specs.Lines.{Line, line, Event, scan, collect, significantLines}
+
+-- entry `i`: indentation, start and end of its text, line number
+abbrev pub lineAt : List ℕ → List ℕ → ℕ → Line
+lineAt text table i = line (getD table (4 * i) 0) (part text (getD table (4 * i + 1) 0) (getD table (4 * i + 2) 0)) (getD table (4 * i + 3) 0)
+
+-- the lines that the first entries of a table stand for
+unfoldable pub tableLines : List ℕ → List ℕ → ℕ → List Line
+tableLines text table zero = []
+tableLines text table (suc n) = tableLines text table n ++ lineAt text table n ∷ []
+
+-- an entry's text lies in the text
+pub record Within (text table : List ℕ) (i : ℕ) : Type 0 where
+  pub ordered : getD table (4 * i + 1) 0 ≤ getD table (4 * i + 2) 0
+  pub inside : getD table (4 * i + 2) 0 ≤ length text
+
+abbrev pub Placed : List ℕ → List ℕ → ℕ → Type 0
+Placed text table n = (i : ℕ) → i < n → Within text table i
+
+-- the answer and the table are those of the definition; a refusal leaves anything in the table
+pub record Filled (text table : List ℕ) (count : ℕ) : Type 0 where
+  pub few : count ≤ 2048
+  pub lines : significantLines text ≡ good (tableLines text table count)
+  pub placed : Placed text table count
+
+abbrev pub Agrees : List ℕ → List ℕ → LinesAnswer → Type 0
+Agrees text table (Read count) = Filled text table count
+Agrees text table (Refused e) = significantLines text ≡ refusal e
+
+-- ---- one step
+
+-- the lines of an answer behind those that are there
+unfoldable pub behind : List Line → Answer (List Line) → Answer (List Line)
+behind ls a = a >>= λ rest. good (ls ++ rest)
+
+-- what is read with `count` entries in the table and these events to come
+abbrev pub reading : List ℕ → List ℕ → ℕ → List Event → Answer (List Line)
+reading text table count events = behind (tableLines text table count) (collect (2048 - count) events)
+
+-- some events, taken into the table
+pub record Took (text old new : List ℕ) (count next : ℕ) (before after : List Event) : Type 0 where
+  pub few : next ≤ 2048
+  pub reads : reading text old count before ≡ reading text new next after
+  pub placed : Placed text old count → Placed text new next
+
+-- a line taken into the table: what the scan gives from it on is what it gives behind it
+abbrev pub Takes : List ℕ → List ℕ → List ℕ → ℕ → ℕ → (List (List ℕ) → List Event) → Step → Type 0
+Takes text old new count n from (Next next literal waiting) =
+    (waiting ≤ n) × ((raws : List (List ℕ)) → Took text old new count next (from raws) (scan literal waiting (n + 1) raws))
+Takes text old new count n from (Stopped e) = (raws : List (List ℕ)) → collect (2048 - count) (from raws) ≡ refusal e
