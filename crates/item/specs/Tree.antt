@@ -1,8 +1,9 @@
 -- Trees: what a text says, before it is asked whether it is a scenario. Assumes nothing.
 use Prim.Native.Nat.{ℕ, suc, max}
 use mathlib.Core.List.{List}
-use mathlib.Core.Bool.{Bool}
+use mathlib.Core.Bool.{Bool, true, false, _||_}
 use lib.IntN.{ℤ}
+use Rattle.refusal.specs.Base.{same}
 
 -- a value, the items of a sequence, the entries of a mapping: three shapes of one family, so that one function serves them all
 pub data Shape : Type 0 where
@@ -43,6 +44,29 @@ levels (y ▸ ys) = max (levels y) (levels ys)
 levels done = 0
 levels (pair k v es) = max (levels v) (levels es)
 
+-- ---- sequences and mappings as they grow, and the search for a key
+
+unfoldable pub _◂_ : Items → Yaml → Items
+end ◂ y = y ▸ end
+(x ▸ xs) ◂ y = x ▸ (xs ◂ y)
+
+infixl 30 _◂_
+unfoldable pub noItem : Items → Bool
+noItem end = true
+noItem (y ▸ ys) = false
+
+unfoldable pub add : Entries → List ℕ → Yaml → Entries
+add done k v = pair k v done
+add (pair j u es) k v = pair j u (add es k v)
+
+unfoldable pub noEntry : Entries → Bool
+noEntry done = true
+noEntry (pair k v es) = false
+
+unfoldable pub hasKey : List ℕ → Entries → Bool
+hasKey k done = false
+hasKey k (pair j v es) = same j k || hasKey k es
+
 unfoldable pub Tree-open : Unit {0}
-unfolding levels
+unfolding levels _◂_ noItem add noEntry hasKey
 Tree-open = tt

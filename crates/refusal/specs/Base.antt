@@ -32,6 +32,16 @@ unfoldable pub maybe {ℓ} : {A : Type 0} {X : Type ℓ} → Option A → X → 
 maybe none x f = x
 maybe (some a) x f = f a
 
+-- a value that must be there, or a refusal
+unfoldable pub given : {A : Type 0} → Option A → ℕ → ℕ → ℕ → Answer A
+given none n l s = refused n l s
+given (some a) n l s = good a
+
+-- a test that must hold, or a refusal
+unfoldable pub ensure : Bool → ℕ → ℕ → ℕ → Answer (Unit {0})
+ensure true n l s = good tt
+ensure false n l s = refused n l s
+
 -- a character of document 01 as its byte, and a text of it as its bytes (only ASCII is written so)
 abbrev pub ch : Char → ℕ
 ch c = code c
@@ -47,6 +57,10 @@ same [] (b ∷ bs) = false
 same (a ∷ rest) [] = false
 same (a ∷ rest) (b ∷ bs) = eqb a b && same rest bs
 
+unfoldable pub oneOf : List ℕ → List (List ℕ) → Bool
+oneOf s [] = false
+oneOf s (t ∷ ts) = same s t || oneOf s ts
+
 -- whether one of the ends of a byte string is `p`
 unfoldable pub endsWith : List ℕ → List ℕ → Bool
 endsWith p [] = same p []
@@ -57,5 +71,5 @@ empty [] = true
 empty (a ∷ rest) = false
 
 unfoldable pub Base-open : Unit {0}
-unfolding _>>=_ _>>_ if_then_else_ maybe bytes same endsWith empty
+unfolding _>>=_ _>>_ if_then_else_ maybe given ensure bytes same oneOf endsWith empty
 Base-open = tt

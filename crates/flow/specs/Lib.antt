@@ -1,0 +1,12 @@
+pub mod Flow
+pub mod Agree
+pub mod Examples
+pub mod Sums
+pub mod Progress
+pub mod Steps
+pub mod Turns
+pub mod Values
+pub mod Grammar
+pub mod GrammarLaws
+pub mod PlainReads
+pub mod FlowReads

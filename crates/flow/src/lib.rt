@@ -1,0 +1,274 @@
+// One line's value: a scalar, a flow sequence or a flow mapping, written into the work bytes as it is read (document 01,
+// section 2). A reader is lent the part of a line that it reads, as `s`, and the work bytes, as `out`, of which the first `at` are
+// used; all of `out` counts. `levels` more collections may be opened.
+ghost use mathlib.Core.Path.{_≡_};
+ghost use mathlib.Core.Logic.{_⊎_};
+ghost use mathlib.Core.Bool.{Bool, true, false};
+ghost use Prim.Native.Nat.{_+_, _≤_, _<_};
+ghost use lib.ListN.{length, drop, getD};
+ghost use Rattle.scalar.specs.declared.Role.{Role as Roles};
+ghost use Rattle.scalar.specs.declared.Role.the-variants.{AsValue};
+ghost use Rattle.scalar.specs.Read.{skipSpaces};
+ghost use Rattle.scalar.specs.Agree.{Agrees};
+ghost use Rattle.flow.specs.Flow as definition;
+ghost use Rattle.flow.specs.Flow.{entryValue};
+ghost use Rattle.flow.specs.Agree as agree;
+ghost use Rattle.flow.specs.Agree.{skipSeparators, sequenceOf, mappingOf, entryOf, AgreesEntry, AgreesWhole};
+use item::put_header;
+use refusal::Refusal;
+use scalar::Parsed;
+use scalar::Role;
+
+// What reading an entry answers: the next place of the line, the end of the key's item and of the value's.
+pub enum EntryRead {
+    Done {
+        next: usize,
+        key_end: usize,
+        used: usize,
+    },
+    Refused(Refusal),
+}
+
+// What reading a whole part answers: the bytes of work that are used, and whether the value can be a key.
+pub enum Whole {
+    Read { used: usize, key: bool },
+    Refused(Refusal),
+}
+
+fn skip_spaces(s: &[u8], from: usize) -> usize
+    requires { ⌜ from ≤ length (now s) ⌝ }
+    ensures { λ r. ⌜ (drop r (now (s .entry)) ≡ skipSpaces (drop from (now (s .entry)))) × (from ≤ r) × (r ≤ length (now (s .entry))) ⌝ }
+{
+    let mut i = from;
+    while i < s.len() {
+        if s[i] != b' ' {
+            break;
+        }
+        i += 1;
+    }
+    i
+}
+
+// Whether a byte separates the items of a collection: a space, and once there is an item, a comma.
+fn separates(b: u8, got: bool) -> bool
+    ensures { λ r. ⌜ r ≡ agree.separates got b ⌝ }
+{
+    if b == b' ' {
+        return true;
+    }
+    if got {
+        return b == b',';
+    }
+    false
+}
+
+fn skip_separators(s: &[u8], from: usize, got: bool) -> usize
+    requires { ⌜ from ≤ length (now s) ⌝ }
+    ensures { λ r. ⌜ (drop r (now (s .entry)) ≡ skipSeparators got (drop from (now (s .entry)))) × (from ≤ r) × (r ≤ length (now (s .entry))) × (r < length (now (s .entry)) → agree.separates got (getD (now (s .entry)) r 0) ≡ false) ⌝ }
+{
+    let mut i = from;
+    while i < s.len() {
+        if !separates(s[i], got) {
+            break;
+        }
+        i += 1;
+    }
+    i
+}
+
+// Whether neither plain text nor a sequence takes a byte here.
+fn stuck(s: &[u8], i: usize) -> bool
+    requires { ⌜ i < length (now s) ⌝ }
+    ensures { λ r. ⌜ r ≡ definition.stuck (getD (now (s .entry)) i 0) (drop (i + 1) (now (s .entry))) ⌝ }
+{
+    if s[i] == b'}' {
+        return true;
+    }
+    if s[i] == b':' {
+        return scalar::ends_colon(s, i + 1);
+    }
+    false
+}
+
+// The items behind a `[`. The header's six bytes are taken, and filled in when the sequence closes.
+fn sequence(s: &[u8], start: usize, levels: usize, line: u32, out: &mut [u8], at: usize) -> Parsed
+    requires { ⌜ (start ≤ length (now s)) × (length (now s) ≤ 65535) × (at + 6 ≤ length (now out)) × (length (now out) ≤ 1048576) ⌝ }
+    ensures { λ r. ⌜ ((role : Roles) → Agrees role (sequenceOf (length (now (out .entry))) line levels at (drop start (now (s .entry)))) (now (s .entry)) (now (out .entry)) (now (out .exit)) at r) ⌝ }
+{
+    let mut i = start;
+    let mut p = at + 6;
+    loop {
+        let j = skip_separators(s, i, p > at + 6);
+        if j == s.len() {
+            return Parsed::Refused(Refusal::FlowSequenceOpen { line });
+        }
+        if s[j] == b']' {
+            put_header(out, at, 4, p - at - 6);
+            return Parsed::Done {
+                next: j + 1,
+                used: p,
+                key: false,
+            };
+        }
+        if stuck(s, j) {
+            return Parsed::Refused(Refusal::StuckSequence { line });
+        }
+        match value(s, j, levels, true, Role::AsValue, line, out, p) {
+            Parsed::Done { next, used, key: _ } => {
+                i = next;
+                p = used;
+            }
+            Parsed::Refused(e) => return Parsed::Refused(e),
+        }
+    }
+}
+
+// The value of an entry, which a comma or a closing brace leaves out.
+fn entry_value(s: &[u8], i: usize, levels: usize, line: u32, out: &mut [u8], at: usize) -> Parsed
+    requires { ⌜ (i ≤ length (now s)) × (length (now s) ≤ 65535) × (at ≤ length (now out)) × (length (now out) ≤ 1048576) ⌝ }
+    ensures { λ r. ⌜ Agrees AsValue (entryValue (length (now (out .entry))) line (definition.value (length (now (out .entry))) line levels true) at (drop i (now (s .entry)))) (now (s .entry)) (now (out .entry)) (now (out .exit)) at r ⌝ }
+{
+    if i == s.len() {
+        return value(s, i, levels, true, Role::AsValue, line, out, at);
+    }
+    if s[i] == b',' {
+        return scalar::null_at(s, i, Role::AsValue, out, at);
+    }
+    if s[i] == b'}' {
+        return scalar::null_at(s, i, Role::AsValue, out, at);
+    }
+    value(s, i, levels, true, Role::AsValue, line, out, at)
+}
+
+// A key, a colon and a value.
+fn entry(s: &[u8], i: usize, levels: usize, line: u32, out: &mut [u8], at: usize) -> EntryRead
+    requires { ⌜ (i ≤ length (now s)) × (length (now s) ≤ 65535) × (at ≤ length (now out)) × (length (now out) ≤ 1048576) ⌝ }
+    ensures { λ r. ⌜ AgreesEntry (entryOf (length (now (out .entry))) line (definition.value (length (now (out .entry))) line levels true) at (drop i (now (s .entry)))) (now (s .entry)) (now (out .entry)) (now (out .exit)) i at r ⌝ }
+{
+    match value(s, i, levels, true, Role::AsKey, line, out, at) {
+        Parsed::Refused(e) => EntryRead::Refused(e),
+        Parsed::Done { next, used, key } => {
+            if !key {
+                return EntryRead::Refused(Refusal::KeyNotScalar { line });
+            }
+            let colon = skip_spaces(s, next);
+            if colon == s.len() {
+                return EntryRead::Refused(Refusal::KeyWithoutColon { line });
+            }
+            if s[colon] != b':' {
+                return EntryRead::Refused(Refusal::KeyWithoutColon { line });
+            }
+            match entry_value(s, skip_spaces(s, colon + 1), levels, line, out, used) {
+                Parsed::Refused(e) => EntryRead::Refused(e),
+                Parsed::Done {
+                    next: n,
+                    used: u,
+                    key: _,
+                } => EntryRead::Done {
+                    next: n,
+                    key_end: used,
+                    used: u,
+                },
+            }
+        }
+    }
+}
+
+// The entries behind a `{`.
+fn mapping(s: &[u8], start: usize, levels: usize, line: u32, out: &mut [u8], at: usize) -> Parsed
+    requires { ⌜ (start ≤ length (now s)) × (length (now s) ≤ 65535) × (at + 6 ≤ length (now out)) × (length (now out) ≤ 1048576) ⌝ }
+    ensures { λ r. ⌜ ((role : Roles) → Agrees role (mappingOf (length (now (out .entry))) line levels at (drop start (now (s .entry)))) (now (s .entry)) (now (out .entry)) (now (out .exit)) at r) ⌝ }
+{
+    let mut i = start;
+    let mut p = at + 6;
+    loop {
+        let j = skip_separators(s, i, p > at + 6);
+        if j == s.len() {
+            return Parsed::Refused(Refusal::FlowMappingOpen { line });
+        }
+        if s[j] == b'}' {
+            put_header(out, at, 5, p - at - 6);
+            return Parsed::Done {
+                next: j + 1,
+                used: p,
+                key: false,
+            };
+        }
+        match entry(s, j, levels, line, out, p) {
+            EntryRead::Done {
+                next,
+                key_end,
+                used,
+            } => {
+                if keys::has_key(out, at + 6, p, p + 6, key_end) {
+                    return Parsed::Refused(Refusal::KeyTwice { line });
+                }
+                i = next;
+                p = used;
+            }
+            EntryRead::Refused(e) => return Parsed::Refused(e),
+        }
+    }
+}
+
+// A collection that opens at `i`.
+fn collection(s: &[u8], i: usize, levels: usize, line: u32, out: &mut [u8], at: usize) -> Parsed
+    requires { ⌜ (i < length (now s)) × ((getD (now s) i 0 ≡ 123) ⊎ (getD (now s) i 0 ≡ 91)) × (length (now s) ≤ 65535) × (at ≤ length (now out)) × (length (now out) ≤ 1048576) ⌝ }
+    ensures { λ r. ⌜ ((inFlow : Bool) (role : Roles) → Agrees role (definition.value (length (now (out .entry))) line levels inFlow role at (drop i (now (s .entry)))) (now (s .entry)) (now (out .entry)) (now (out .exit)) at r) ⌝ }
+{
+    if levels == 0 {
+        return Parsed::Refused(Refusal::TooDeep { line });
+    }
+    if out.len() - at < 6 {
+        return Parsed::Refused(Refusal::WorkTooShort);
+    }
+    if s[i] == b'{' {
+        return mapping(s, i + 1, levels - 1, line, out, at);
+    }
+    sequence(s, i + 1, levels - 1, line, out, at)
+}
+
+fn value(
+    s: &[u8],
+    i: usize,
+    levels: usize,
+    in_flow: bool,
+    role: Role,
+    line: u32,
+    out: &mut [u8],
+    at: usize,
+) -> Parsed
+    requires { ⌜ (i ≤ length (now s)) × (length (now s) ≤ 65535) × (at ≤ length (now out)) × (length (now out) ≤ 1048576) ⌝ }
+    ensures { λ r. ⌜ Agrees role (definition.value (length (now (out .entry))) line levels in_flow role at (drop i (now (s .entry)))) (now (s .entry)) (now (out .entry)) (now (out .exit)) at r ⌝ }
+{
+    if i == s.len() {
+        return scalar::null_at(s, i, role, out, at);
+    }
+    match s[i] {
+        b'{' => collection(s, i, levels, line, out, at),
+        b'[' => collection(s, i, levels, line, out, at),
+        b'"' => scalar::double_quoted(s, i + 1, role, line, out, at),
+        b'\'' => scalar::single_quoted(s, i + 1, role, line, out, at),
+        b'&' => Parsed::Refused(Refusal::AnchorAliasOrTag { line }),
+        b'*' => Parsed::Refused(Refusal::AnchorAliasOrTag { line }),
+        b'!' => Parsed::Refused(Refusal::AnchorAliasOrTag { line }),
+        _ => scalar::plain(s, i, in_flow, role, line, out, at),
+    }
+}
+
+// A part of a line that is one value.
+pub fn flow(s: &[u8], levels: usize, role: Role, line: u32, out: &mut [u8], at: usize) -> Whole
+    requires { ⌜ (length (now s) ≤ 65535) × (at ≤ length (now out)) × (length (now out) ≤ 1048576) ⌝ }
+    ensures { λ r. ⌜ AgreesWhole role (definition.flow (length (now (out .entry))) line levels role at (now (s .entry))) (now (out .entry)) (now (out .exit)) at r ⌝ }
+{
+    match value(s, skip_spaces(s, 0), levels, false, role, line, out, at) {
+        Parsed::Refused(e) => Whole::Refused(e),
+        Parsed::Done { next, used, key } => {
+            if skip_spaces(s, next) == s.len() {
+                Whole::Read { used, key }
+            } else {
+                Whole::Refused(Refusal::TextAfterValue { line })
+            }
+        }
+    }
+}

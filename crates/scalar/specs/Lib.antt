@@ -1,0 +1,9 @@
+pub mod Scalars
+pub mod Key
+pub mod Read
+pub mod Agree
+pub mod Code
+pub mod KeyLaws
+pub mod NumberLaws
+pub mod Laws
+pub mod QuoteLaws

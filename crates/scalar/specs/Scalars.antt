@@ -1,0 +1,94 @@
+-- Scalars: the last rules of section 2 of document 01 (`scalar_of`, `as_str`). Assumes nothing.
+use Prim.Native.Nat.{ℕ, zero, suc, _+_, _*_, _-_, _/_, _%_, _^_}
+use mathlib.Core.List.{List, [], _∷_, _++_}
+use mathlib.Core.Bool.{Bool, true, false, _&&_, not}
+use mathlib.Core.Option.{Option, none, some}
+use lib.Dec.{ltb, leb, eqb}
+use lib.IntN.{ℤ, pos, negsuc, negℤ}
+use Rattle.refusal.specs.Base.{if_then_else_, ch, bytes, oneOf, empty}
+use Rattle.utf8.specs.Utf8.{_‥_, within}
+use Rattle.item.specs.Tree.{Yaml, null, bool, int, str, seq, dict}
+
+-- ---- integers
+
+unfoldable pub isDigit : ℕ → Bool
+isDigit b = within (ch "0" ‥ ch "9") b
+
+unfoldable pub allDigits : List ℕ → Bool
+allDigits [] = true
+allDigits (b ∷ bs) = isDigit b && allDigits bs
+
+-- the digits' number, with `n` before them
+unfoldable pub decimalFrom : ℕ → List ℕ → ℕ
+decimalFrom n [] = n
+decimalFrom n (b ∷ bs) = decimalFrom (n * 10 + (b - ch "0")) bs
+
+unfoldable pub digits : List ℕ → Option ℕ
+digits s = if not (empty s) && allDigits s then some (decimalFrom 0 s) else none
+
+-- at most 9223372036854775807, or 9223372036854775808 behind a minus
+unfoldable pub positive : Option ℕ → Option ℤ
+positive none = none
+positive (some n) = if ltb n (2 ^ 63) then some (pos n) else none
+
+unfoldable pub negative : Option ℕ → Option ℤ
+negative none = none
+negative (some n) = if leb n (2 ^ 63) then some (negℤ (pos n)) else none
+
+-- an optional sign, digits, 64 bits
+unfoldable pub integer : List ℕ → Option ℤ
+integer [] = none
+integer (b ∷ bs) =
+    if eqb b (ch "-") then negative (digits bs)
+    else if eqb b (ch "+") then positive (digits bs)
+    else positive (digits (b ∷ bs))
+
+-- ---- plain scalars
+
+abbrev pub nulls : List (List ℕ)
+nulls = [] ∷ bytes "~" ∷ bytes "null" ∷ bytes "Null" ∷ bytes "NULL" ∷ []
+
+abbrev pub trues : List (List ℕ)
+trues = bytes "true" ∷ bytes "True" ∷ bytes "TRUE" ∷ []
+
+abbrev pub falses : List (List ℕ)
+falses = bytes "false" ∷ bytes "False" ∷ bytes "FALSE" ∷ []
+
+unfoldable pub intOr : List ℕ → Option ℤ → Yaml
+intOr s none = str s
+intOr s (some z) = int z
+
+unfoldable pub scalarOf : List ℕ → Yaml
+scalarOf s =
+    if oneOf s nulls then null
+    else if oneOf s trues then bool true
+    else if oneOf s falses then bool false
+    else intOr s (integer s)
+
+-- ---- scalars as texts
+
+-- decimal digits; a 64-bit number has at most 20
+unfoldable pub decimalOf : ℕ → ℕ → List ℕ
+decimalOf zero n = []
+decimalOf (suc places) n = if ltb n 10 then (ch "0" + n) ∷ [] else decimalOf places (n / 10) ++ ((ch "0" + n % 10) ∷ [])
+
+unfoldable pub intText : ℤ → List ℕ
+intText (pos n) = decimalOf 20 n
+intText (negsuc n) = ch "-" ∷ decimalOf 20 (suc n)
+
+unfoldable pub boolText : Bool → List ℕ
+boolText true = bytes "true"
+boolText false = bytes "false"
+
+-- `as_str`: none for null and collections
+unfoldable pub text : Yaml → Option (List ℕ)
+text null = none
+text (bool b) = some (boolText b)
+text (int z) = some (intText z)
+text (str s) = some s
+text (seq ys) = none
+text (dict es) = none
+
+unfoldable pub Scalars-open : Unit {0}
+unfolding isDigit allDigits decimalFrom digits positive negative integer intOr scalarOf decimalOf intText boolText text
+Scalars-open = tt

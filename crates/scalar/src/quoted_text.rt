@@ -1,0 +1,194 @@
+// Quoted strings, read twice: where the string ends and how many bytes it has, and then its bytes, straight into their place.
+ghost use mathlib.Core.Path.{_≡_};
+ghost use mathlib.Core.List.{List};
+ghost use mathlib.Core.Bool.{true, false};
+ghost use Prim.Native.Nat.{ℕ, _+_, _≤_, _<_};
+ghost use lib.ListN.{length, drop};
+ghost use lib.Seq.{sets};
+ghost use Rattle.refusal.specs.Base.{good};
+ghost use Rattle.scalar.specs.declared.Role.{Role as Roles};
+ghost use Rattle.scalar.specs.Read.{escape, doubleQuoted, singleQuoted, string};
+ghost use Rattle.scalar.specs.Agree.{Agrees};
+ghost use Rattle.scalar.specs.Code.{escapeOf, quotedOf, Steps, Spans};
+use super::Parsed;
+use super::Role;
+use item::put_header;
+use refusal::Refusal;
+
+enum Quote {
+    Single,
+    Double,
+}
+
+// What an escape stands for.
+enum Escape {
+    Byte(u8),
+    Unknown,
+}
+
+// What stands at a place in quotes: a byte of the string, which runs up to `next`, or the closing quote, which stands before `next`.
+enum Step {
+    Byte { byte: u8, next: usize },
+    Shut { next: usize },
+    Refused(Refusal),
+}
+
+// Where a quoted string's closing quote ends, and how many bytes the string has.
+enum Span {
+    Ends { next: usize, size: usize },
+    Refused(Refusal),
+}
+
+fn unescaped(c: u8) -> Escape
+    ensures { λ r. ⌜ r ≡ escapeOf (escape c) ⌝ }
+{
+    match c {
+        b'n' => Escape::Byte(b'\n'),
+        b't' => Escape::Byte(b'\t'),
+        b'r' => Escape::Byte(b'\r'),
+        b'0' => Escape::Byte(0),
+        b'"' | b'\\' | b'/' => Escape::Byte(c),
+        _ => Escape::Unknown,
+    }
+}
+
+// The escape whose `\` stands before `i`.
+fn escape_step(s: &[u8], i: usize, line: u32) -> Step
+    requires { ⌜ i ≤ length (now s) ⌝ }
+    ensures { λ r. ⌜ ((cap : ℕ) → Steps (doubleQuoted cap line true) (doubleQuoted cap line false) cap line (now (s .entry)) i r) ⌝ }
+{
+    if i == s.len() {
+        return Step::Refused(Refusal::EscapeCut { line });
+    }
+    let Escape::Byte(byte) = unescaped(s[i]) else {
+        return Step::Refused(Refusal::UnknownEscape { line });
+    };
+    Step::Byte { byte, next: i + 1 }
+}
+
+fn double_step(s: &[u8], i: usize, line: u32) -> Step
+    requires { ⌜ i ≤ length (now s) ⌝ }
+    ensures { λ r. ⌜ ((cap : ℕ) → Steps (doubleQuoted cap line false) (doubleQuoted cap line false) cap line (now (s .entry)) i r) ⌝ }
+{
+    if i == s.len() {
+        return Step::Refused(Refusal::QuoteOpen { line });
+    }
+    let b = s[i];
+    if b == b'"' {
+        return Step::Shut { next: i + 1 };
+    }
+    if b == b'\\' {
+        return escape_step(s, i + 1, line);
+    }
+    Step::Byte {
+        byte: b,
+        next: i + 1,
+    }
+}
+
+// Two quotes are one of the string's.
+fn single_step(s: &[u8], i: usize, line: u32) -> Step
+    requires { ⌜ i ≤ length (now s) ⌝ }
+    ensures { λ r. ⌜ ((cap : ℕ) → Steps (singleQuoted cap line false) (singleQuoted cap line false) cap line (now (s .entry)) i r) ⌝ }
+{
+    if i == s.len() {
+        return Step::Refused(Refusal::QuoteOpen { line });
+    }
+    let b = s[i];
+    if b != b'\'' {
+        return Step::Byte {
+            byte: b,
+            next: i + 1,
+        };
+    }
+    if i + 1 == s.len() {
+        return Step::Shut { next: i + 1 };
+    }
+    if s[i + 1] != b'\'' {
+        return Step::Shut { next: i + 1 };
+    }
+    Step::Byte {
+        byte: b'\'',
+        next: i + 2,
+    }
+}
+
+fn step_at(quote: Quote, s: &[u8], i: usize, line: u32) -> Step
+    requires { ⌜ i ≤ length (now s) ⌝ }
+    ensures { λ r. ⌜ ((cap : ℕ) → Steps (quotedOf quote cap line) (quotedOf quote cap line) cap line (now (s .entry)) i r) ⌝ }
+{
+    match quote {
+        Quote::Single => single_step(s, i, line),
+        Quote::Double => double_step(s, i, line),
+    }
+}
+
+fn span_of(quote: Quote, s: &[u8], i: usize, line: u32) -> Span
+    requires { ⌜ i ≤ length (now s) ⌝ }
+    ensures { λ r. ⌜ ((cap : ℕ) → Spans (quotedOf quote cap line) (now (s .entry)) i r) ⌝ }
+{
+    let mut place = i;
+    let mut size = 0;
+    loop {
+        match step_at(quote, s, place, line) {
+            Step::Byte { byte: _, next } => {
+                place = next;
+                size += 1;
+            }
+            Step::Shut { next } => return Span::Ends { next, size },
+            Step::Refused(e) => return Span::Refused(e),
+        }
+    }
+}
+
+// The string's bytes, of which there are `size`.
+fn put_bytes(quote: Quote, s: &[u8], i: usize, line: u32, size: usize, out: &mut [u8], at: usize)
+    requires { ⌜ (i ≤ length (now s)) × (at + size ≤ length (now out)) ⌝ }
+    ensures { λ _. ⌜ ((cap : ℕ) (t rest : List ℕ) → quotedOf quote cap line (drop i (now (s .entry))) ≡ good (t, rest) → length t ≡ size → now (out .exit) ≡ sets (now (out .entry)) at t) ⌝ }
+{
+    let mut place = i;
+    let mut done = 0;
+    while done < size {
+        let Step::Byte { byte, next } = step_at(quote, s, place, line) else {
+            return;
+        };
+        out[at + done] = byte;
+        place = next;
+        done += 1;
+    }
+}
+
+fn quoted(quote: Quote, s: &[u8], i: usize, line: u32, out: &mut [u8], at: usize) -> Parsed
+    requires { ⌜ (i ≤ length (now s)) × (length (now s) ≤ 65535) × (at ≤ length (now out)) × (length (now out) ≤ 1048576) ⌝ }
+    ensures { λ r. ⌜ ((role : Roles) → Agrees role (string (length (now (out .entry))) line role at (quotedOf quote (length (now (out .entry))) line (drop i (now (s .entry))))) (now (s .entry)) (now (out .entry)) (now (out .exit)) at r) ⌝ }
+{
+    match span_of(quote, s, i, line) {
+        Span::Ends { next, size } => {
+            if out.len() - at < 6 + size {
+                return Parsed::Refused(Refusal::WorkTooShort);
+            }
+            put_header(out, at, 3, size);
+            put_bytes(quote, s, i, line, size, out, at + 6);
+            Parsed::Done {
+                next,
+                used: at + 6 + size,
+                key: true,
+            }
+        }
+        Span::Refused(e) => Parsed::Refused(e),
+    }
+}
+
+pub fn double_quoted(s: &[u8], i: usize, role: Role, line: u32, out: &mut [u8], at: usize) -> Parsed
+    requires { ⌜ (i ≤ length (now s)) × (length (now s) ≤ 65535) × (at ≤ length (now out)) × (length (now out) ≤ 1048576) ⌝ }
+    ensures { λ r. ⌜ Agrees role (string (length (now (out .entry))) line role at (doubleQuoted (length (now (out .entry))) line false (drop i (now (s .entry))))) (now (s .entry)) (now (out .entry)) (now (out .exit)) at r ⌝ }
+{
+    quoted(Quote::Double, s, i, line, out, at)
+}
+
+pub fn single_quoted(s: &[u8], i: usize, role: Role, line: u32, out: &mut [u8], at: usize) -> Parsed
+    requires { ⌜ (i ≤ length (now s)) × (length (now s) ≤ 65535) × (at ≤ length (now out)) × (length (now out) ≤ 1048576) ⌝ }
+    ensures { λ r. ⌜ Agrees role (string (length (now (out .entry))) line role at (singleQuoted (length (now (out .entry))) line false (drop i (now (s .entry))))) (now (s .entry)) (now (out .entry)) (now (out .exit)) at r ⌝ }
+{
+    quoted(Quote::Single, s, i, line, out, at)
+}
