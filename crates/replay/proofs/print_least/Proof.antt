@@ -4,8 +4,8 @@ use mathlib.Core.Path.{_≡_, sym}
 use Prim.Native.Nat.{_-_, _≤_}
 use lib.ListN.{length}
 use lib.Seq.{length-take-le}
-use Rattle.replay_work.proofs.print_least.Statement.{statement}
-use Rattle.replay_work.proofs.print_least.Tie as tie
+use Rattle.replay.proofs.print_least.Statement.{statement}
+use Rattle.replay.proofs.print_least.Tie as tie
 
 abbrev Inv-loop : tie.InvT-loop
 Inv-loop s out₀ n₀ n-end out n = (length out ≡ length out₀) × (n-end ≡ length out₀)

@@ -4,8 +4,8 @@ use mathlib.Core.Path.{_≡_, sym}
 use Prim.Native.Nat.{_-_}
 use lib.ListN.{length}
 use lib.Seq.{length-take-le}
-use Rattle.replay_work.proofs.replay_all.Statement.{statement}
-use Rattle.replay_work.proofs.replay_all.Tie as tie
+use Rattle.replay.proofs.replay_work.Statement.{statement}
+use Rattle.replay.proofs.replay_work.Tie as tie
 
 abbrev Inv-loop : tie.InvT-loop
 Inv-loop buffer₀ out₀ texts counter₀ buffer out counter = (length buffer ≡ length buffer₀) × (length out ≡ length out₀)
@@ -16,8 +16,8 @@ abbrev μ-loop : tie.MeasureT-loop
 slice-aggregate-print-least : tie.Need-slice-aggregate-print-least Inv-loop μ-loop
 slice-aggregate-print-least c = sym (length-take-le _ _ (search needs))
 
-pub replay-all-spec : {M : Type 1} → statement M
-replay-all-spec =
+pub replay-work-spec : {M : Type 1} → statement M
+replay-work-spec =
     tie.close
     (tie.spec
     Inv-loop

@@ -1,8 +1,8 @@
 -- No invariant is needed; the counter ends the loop. Assumes nothing.
 use borrow.Author.Needs.{needs}
 use Prim.Native.Nat.{_-_}
-use Rattle.replay_lines.proofs.print_entries.Statement.{statement}
-use Rattle.replay_lines.proofs.print_entries.Tie as tie
+use Rattle.replay.proofs.print_entries.Statement.{statement}
+use Rattle.replay.proofs.print_entries.Tie as tie
 
 abbrev Inv-loop : tie.InvT-loop
 Inv-loop text table count i₀ i = Unit {0}

@@ -4,8 +4,8 @@ use mathlib.Core.Path.{_≡_, sym}
 use Prim.Native.Nat.{_-_}
 use lib.ListN.{length}
 use lib.Seq.{length-take-le}
-use Rattle.replay_lines.proofs.replay_all.Statement.{statement}
-use Rattle.replay_lines.proofs.replay_all.Tie as tie
+use Rattle.replay.proofs.replay_lines.Statement.{statement}
+use Rattle.replay.proofs.replay_lines.Tie as tie
 
 abbrev Inv-loop : tie.InvT-loop
 Inv-loop buffer₀ texts counter₀ buffer counter = length buffer ≡ length buffer₀
@@ -16,8 +16,8 @@ abbrev μ-loop : tie.MeasureT-loop
 slice-aggregate-print-lines : tie.Need-slice-aggregate-print-lines Inv-loop μ-loop
 slice-aggregate-print-lines c = sym (length-take-le _ _ (search needs))
 
-pub replay-all-spec : {M : Type 1} → statement M
-replay-all-spec =
+pub replay-lines-spec : {M : Type 1} → statement M
+replay-lines-spec =
     tie.close
     (tie.spec
     Inv-loop

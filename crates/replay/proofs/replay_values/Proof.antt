@@ -4,8 +4,8 @@ use mathlib.Core.Path.{_≡_, sym}
 use Prim.Native.Nat.{_-_}
 use lib.ListN.{length}
 use lib.Seq.{length-take-le}
-use Rattle.replay_flow.proofs.replay_all.Statement.{statement}
-use Rattle.replay_flow.proofs.replay_all.Tie as tie
+use Rattle.replay.proofs.replay_values.Statement.{statement}
+use Rattle.replay.proofs.replay_values.Tie as tie
 
 abbrev Inv-loop : tie.InvT-loop
 Inv-loop buffer₀ out₀ texts t5 counter₀ buffer out counter = (length buffer ≡ length buffer₀) × (length out ≡ length out₀)
@@ -19,8 +19,8 @@ slice-aggregate-print-key c = sym (length-take-le _ _ (search needs))
 slice-aggregate-print-value : tie.Need-slice-aggregate-print-value Inv-loop μ-loop
 slice-aggregate-print-value c = sym (length-take-le _ _ (search needs))
 
-pub replay-all-spec : {M : Type 1} → statement M
-replay-all-spec =
+pub replay-values-spec : {M : Type 1} → statement M
+replay-values-spec =
     tie.close
     (tie.spec
     Inv-loop
