@@ -32,12 +32,12 @@ use Rattle.flow.specs.Steps.{comma-off, items-skip, items-close, items-s
 
 -- ---- what is written
 
-snoc-bytes : (ys : Items) (y : Yaml) → encode (ys ◂ y) ≡ encode ys ++ encode y
+pub snoc-bytes : (ys : Items) (y : Yaml) → encode (ys ◂ y) ≡ encode ys ++ encode y
 unfolding encode _◂_
 snoc-bytes end y = append-nil (encode y)
 snoc-bytes (x ▸ ys) y = ap (λ (l : List ℕ). encode x ++ l) (snoc-bytes ys y) ∙ sym (append-assoc (encode x) (encode ys) (encode y))
 
-add-bytes : (es : Entries) (k : List ℕ) (v : Yaml) → encode (add es k v) ≡ encode es ++ (item 3 k ++ encode v)
+pub add-bytes : (es : Entries) (k : List ℕ) (v : Yaml) → encode (add es k v) ≡ encode es ++ (item 3 k ++ encode v)
 unfolding encode add
 add-bytes done k v = ap (λ (l : List ℕ). item 3 k ++ l) (append-nil (encode v))
 add-bytes (pair j u es) k v =
@@ -72,7 +72,7 @@ first-none cap n end e = refl
 first-none cap n (y ▸ ys) e = absurd (omega arith)
 
 -- a header before what it heads
-headed : (k : ℕ) (old out new c : List ℕ) (at p : ℕ) → out ≡ sets old (at + 6) c → p ≡ at + 6 + length c → new ≡ sets out at (head k (p - at - 6)) → new ≡ sets old at (item k c)
+pub headed : (k : ℕ) (old out new c : List ℕ) (at p : ℕ) → out ≡ sets old (at + 6) c → p ≡ at + 6 + length c → new ≡ sets out at (head k (p - at - 6)) → new ≡ sets old at (item k c)
 unfolding item
 headed k old out new c at p b u w =
     let e : p - at - 6 ≡ length c = omega arith in
@@ -261,7 +261,7 @@ mapped-start s start levels n old at r w =
     record { got = done; same = refl; bytes = refl; used = omega arith; kept = refl; room = r; within = w }
 
 -- what a run of stores holds from its start on
-stored-front : (l vs : List ℕ) (i : ℕ) → i + length vs ≤ length l → drop i (sets l i vs) ≡ vs ++ drop (i + length vs) l
+pub stored-front : (l vs : List ℕ) (i : ℕ) → i + length vs ≤ length l → drop i (sets l i vs) ≡ vs ++ drop (i + length vs) l
 stored-front l vs i h = rw (sets-eq vs l i h, append-assoc (take i l) vs (drop (i + length vs) l)) (drop-at (take i l) (vs ++ drop (i + length vs) l) i (length-take-le i l (omega arith)))
 
 module _ (s : List ℕ) (start levels n : ℕ) (old : List ℕ) (at : ℕ) (out : List ℕ) (i p : ℕ) (v : Mapped s start levels n old at out i p) where

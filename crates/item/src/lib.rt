@@ -80,7 +80,7 @@ pub fn put_int(out: &mut [u8], at: usize, negative: bool, magnitude: u64)
     put_u64(out, at + 6, twos_complement(negative, magnitude));
 }
 
-fn copy(out: &mut [u8], at: usize, s: &[u8])
+pub fn copy(out: &mut [u8], at: usize, s: &[u8])
     requires { ⌜ at + length (now s) ≤ length (now out) ⌝ }
     ensures { λ _. ⌜ now (out .exit) ≡ sets (now (out .entry)) at (now (s .entry)) ⌝ }
 {

@@ -6,6 +6,7 @@ use lib.ListN.{length, getD}
 use Rattle.refusal.specs.Base.{Answer, good, _>>=_}
 use Rattle.refusal.specs.Told.{refusal}
 use Rattle.utf8.specs.Part.{part}
+use Rattle.lines.specs.declared.Entry.{Entry}
 use Rattle.lines.specs.declared.Step.{Step}
 use Rattle.lines.specs.declared.Step.the-variants.{Next, Refused as Stopped}
 use Rattle.lines.specs.declared.LinesAnswer.{LinesAnswer}
@@ -28,6 +29,14 @@ pub record Within (text table : List ℕ) (i : ℕ) : Type 0 where
 
 abbrev pub Placed : List ℕ → List ℕ → ℕ → Type 0
 Placed text table n = (i : ℕ) → i < n → Within text table i
+
+-- entry `i` of a table, as the code has it
+pub record IsEntry (table : List ℕ) (i : ℕ) (entry : Entry) : Type 0 where
+  pub indent′ : entry .indent ≡ getD table (4 * i) 0
+  pub start′ : entry .start ≡ getD table (4 * i + 1) 0
+  pub end′ : entry .end ≡ getD table (4 * i + 2) 0
+  pub number′ : entry .number ≡ getD table (4 * i + 3) 0
+  pub narrow : (entry .indent ≤ 65535) × (entry .end ≤ 65535)
 
 -- the answer and the table are those of the definition; a refusal leaves anything in the table
 pub record Filled (text table : List ℕ) (count : ℕ) : Type 0 where

@@ -9,7 +9,7 @@ ghost use Rattle.refusal.specs.Base.{endsWith};
 ghost use Rattle.utf8.specs.Part.{part};
 ghost use Rattle.lines.specs.Lines.{indentOf, tabbed, afterPlain, placeAfter, startsComment, stripComment, isMarker, opensLiteral, literalOf, Event, blanksBefore, scan};
 ghost use Rattle.lines.specs.Places.{untilNewline, LineEnds, IsRaw, RawAt, rawText, normal, body};
-ghost use Rattle.lines.specs.Table.{Took, Takes, Agrees};
+ghost use Rattle.lines.specs.Table.{Took, Takes, Agrees, IsEntry};
 use item::same_bytes;
 use refusal::Refusal;
 use utf8::trim_end;
@@ -43,6 +43,14 @@ pub struct Raw {
     pub start: usize,
     pub to: usize,
     pub number: usize,
+}
+
+// An entry of the table: its indentation, the start and the end of its text, and its line's number.
+pub struct Entry {
+    pub indent: usize,
+    pub start: usize,
+    pub end: usize,
+    pub number: u32,
 }
 
 // What is known behind a line: how many entries there are, what is open, and how many blank lines of it wait.
@@ -437,4 +445,24 @@ pub fn read_lines(text: &[u8], table: &mut [u16; 8192]) -> LinesAnswer
     ensures { λ r. ⌜ Agrees (now (text .entry)) (now (table .exit)) r ⌝ }
 {
     fill(text, table)
+}
+
+// A number of the table; the caller owes nothing for the cast.
+fn wide(n: u16) -> usize
+    ensures { λ r. ⌜ (r ≡ n) × (r ≤ 65535) ⌝ }
+{
+    n as usize
+}
+
+// Entry `i` of a table.
+pub fn entry_at(table: &[u16], i: usize) -> Entry
+    requires { ⌜ 4 * i + 4 ≤ length (now table) ⌝ }
+    ensures { λ r. ⌜ IsEntry (now (table .entry)) i r ⌝ }
+{
+    Entry {
+        indent: wide(table[4 * i]),
+        start: wide(table[4 * i + 1]),
+        end: wide(table[4 * i + 2]),
+        number: wide(table[4 * i + 3]) as u32,
+    }
 }

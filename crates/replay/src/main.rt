@@ -1,7 +1,7 @@
 // Replays stored cases: items at the ends of their ranges, then the texts of a stream. A text is a length of 4 bytes, little-endian,
 // and so many bytes; the sections of the stream each end with the length 4294967295: whole texts for their lines, parts of one line
-// for where a key ends and for their value, and parts of one line that are lent more and more work bytes. Of the answers, in the
-// file stdout, the first three lists come from Rust, and the last from document 01.
+// for where a key ends and for their value, whole texts for their trees, and whole texts that are lent more and more work bytes. The
+// answers, in the file stdout, come from Rust; the last list, and the limits that the Rust lacks, from document 01.
 ghost use Prim.Native.Nat.{_≤_, _<_};
 ghost use lib.ListN.{length};
 use flow::Whole;
@@ -12,6 +12,7 @@ use lines::LinesAnswer;
 use refusal::Refusal;
 use scalar::Found;
 use scalar::Role;
+use tree::TreeAnswer;
 
 // More texts than a section has.
 const TEXTS: usize = 100000000;
@@ -173,11 +174,6 @@ fn replay_items() {
     print_same(b"bell", b"bells");
 }
 
-// A number of the table; the caller owes nothing for the cast.
-fn wide_entry(n: u16) -> usize {
-    n as usize
-}
-
 fn print_part(text: &[u8], from: usize, to: usize) {
     if to <= text.len() {
         if from <= to {
@@ -188,16 +184,13 @@ fn print_part(text: &[u8], from: usize, to: usize) {
 
 fn print_entry(text: &[u8], table: &[u16; 8192], i: usize) {
     if i < 2048 {
+        let entry = lines::entry_at(table, i);
         print(b" ");
-        print_number(wide_entry(table[4 * i]) as u64);
+        print_number(entry.indent as u64);
         print(b":");
-        print_number(wide_entry(table[4 * i + 3]) as u64);
+        print_number(entry.number as u64);
         print(b":");
-        print_part(
-            text,
-            wide_entry(table[4 * i + 1]),
-            wide_entry(table[4 * i + 2]),
-        );
+        print_part(text, entry.start, entry.end);
     }
 }
 
@@ -267,24 +260,70 @@ fn replay_values(buffer: &mut [u8], out: &mut [u8], texts: usize) {
     }
 }
 
+fn all_are(bytes: &[u8], b: u8) -> bool {
+    for i in 0..bytes.len() {
+        if bytes[i] != b {
+            return false;
+        }
+    }
+    true
+}
+
+// A refusal must leave zeros in all work bytes.
+fn print_left(work: &[u8]) {
+    if !all_are(work, 0) {
+        print(b" left");
+    }
+}
+
+// The work bytes behind a tree, which were sevens, must stay.
+fn print_changed(work: &[u8], from: usize) {
+    let to = work.len();
+    if from <= to {
+        if !all_are(&work[from..to], 7) {
+            print(b" changed");
+        }
+    }
+}
+
+fn print_tree(text: &[u8], work: &mut [u8]) {
+    match tree::read_tree(text, work) {
+        TreeAnswer::Read { bytes } => {
+            print(b"ok ");
+            print_part(work, 0, bytes);
+            print_changed(work, bytes);
+        }
+        TreeAnswer::Refused(e) => {
+            print_refusal(e);
+            print_left(work);
+        }
+    }
+}
+
+fn replay_trees(buffer: &mut [u8], texts: usize) {
+    for _ in 0..texts {
+        let n = next_text(buffer);
+        if n > buffer.len() {
+            return;
+        }
+        print_tree(&buffer[..n], &mut [7u8; 65536]);
+        print(b"\n");
+    }
+}
+
 // Whether an answer was printed: 50 is none.
-fn print_answer(s: &[u8], out: &mut [u8]) -> bool {
-    let n = out.len();
-    if s.len() > 65535 {
-        return true;
-    }
-    if n > 1048576 {
-        return true;
-    }
-    match flow::flow(s, 32, Role::AsValue, 1, out, 0) {
-        Whole::Read { used, key: _ } => {
+fn print_answer(text: &[u8], work: &mut [u8]) -> bool {
+    let n = work.len();
+    match tree::read_tree(text, work) {
+        TreeAnswer::Read { bytes } => {
             print_number(n as u64);
             print(b" ok ");
-            print_number(used as u64);
+            print_number(bytes as u64);
             print(b"\n");
             true
         }
-        Whole::Refused(e) => {
+        TreeAnswer::Refused(e) => {
+            print_left(work);
             if e.told().number == 50 {
                 return false;
             }
@@ -297,21 +336,21 @@ fn print_answer(s: &[u8], out: &mut [u8]) -> bool {
     }
 }
 
-fn print_least(s: &[u8], out: &mut [u8]) {
-    for n in 0..out.len() {
-        if print_answer(s, &mut out[..n]) {
+fn print_least(text: &[u8], work: &mut [u8]) {
+    for n in 0..work.len() {
+        if print_answer(text, &mut work[..n]) {
             return;
         }
     }
 }
 
-fn replay_work(buffer: &mut [u8], out: &mut [u8], texts: usize) {
+fn replay_work(buffer: &mut [u8], work: &mut [u8], texts: usize) {
     for _ in 0..texts {
         let n = next_text(buffer);
         if n > buffer.len() {
             return;
         }
-        print_least(&buffer[..n], out);
+        print_least(&buffer[..n], work);
     }
 }
 
@@ -319,5 +358,6 @@ fn main() {
     replay_items();
     replay_lines(&mut [0u8; 65535], TEXTS);
     replay_values(&mut [0u8; 65535], &mut [0u8; 65535], TEXTS);
-    replay_work(&mut [0u8; 65535], &mut [0u8; 1024], TEXTS);
+    replay_trees(&mut [0u8; 65536], TEXTS);
+    replay_work(&mut [0u8; 65535], &mut [7u8; 1024], TEXTS);
 }

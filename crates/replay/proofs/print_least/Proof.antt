@@ -8,10 +8,10 @@ use Rattle.replay.proofs.print_least.Statement.{statement}
 use Rattle.replay.proofs.print_least.Tie as tie
 
 abbrev Inv-loop : tie.InvT-loop
-Inv-loop s out₀ n₀ n-end out n = (length out ≡ length out₀) × (n-end ≡ length out₀)
+Inv-loop text work₀ n₀ n-end work n = (length work ≡ length work₀) × (n-end ≡ length work₀)
 
 abbrev μ-loop : tie.MeasureT-loop
-μ-loop s out₀ n₀ n-end out n = n-end - n
+μ-loop text work₀ n₀ n-end work n = n-end - n
 
 slice-aggregate-print-answer : tie.Need-slice-aggregate-print-answer Inv-loop μ-loop
 slice-aggregate-print-answer c = sym (length-take-le _ _ (search needs))

@@ -8,10 +8,10 @@ use Rattle.replay.proofs.replay_work.Statement.{statement}
 use Rattle.replay.proofs.replay_work.Tie as tie
 
 abbrev Inv-loop : tie.InvT-loop
-Inv-loop buffer₀ out₀ texts counter₀ buffer out counter = (length buffer ≡ length buffer₀) × (length out ≡ length out₀)
+Inv-loop buffer₀ work₀ texts counter₀ buffer work counter = (length buffer ≡ length buffer₀) × (length work ≡ length work₀)
 
 abbrev μ-loop : tie.MeasureT-loop
-μ-loop buffer₀ out₀ texts counter₀ buffer out counter = texts - counter
+μ-loop buffer₀ work₀ texts counter₀ buffer work counter = texts - counter
 
 slice-aggregate-print-least : tie.Need-slice-aggregate-print-least Inv-loop μ-loop
 slice-aggregate-print-least c = sym (length-take-le _ _ (search needs))

@@ -1,0 +1,6 @@
+pub mod Block
+pub mod Agree
+pub mod Parts
+pub mod Steps
+pub mod Turns
+pub mod Places

@@ -1,0 +1,315 @@
+-- What the small readers of blocks come to, by the places of the code. Assumes nothing.
+use mathlib.Core.Path.{_≡_, refl, sym, ap, _∙_, subst}
+use Prim.Native.Nat.{ℕ, suc, _+_, _-_, _≤_, _<_}
+use native.Mathlib.Omega.{arith}
+use mathlib.Core.List.{List, [], _∷_}
+use mathlib.Core.Bool.{Bool, true, false, _&&_}
+use mathlib.Core.Option.{Option, none, some}
+use lib.Dec.{eqb}
+use lib.ListN.{length, drop, getD}
+use lib.Seq.{sets}
+use borrow.Author.Tests.{eq-eqb, ne-eqb, le-leb, lt-leb}
+use Rattle.refusal.specs.Base.{Answer, refused, _>>=_, _>>_, ensure, given, maybe, if_then_else_, ch, bytes, same, empty}
+use Rattle.refusal.specs.Told.{refusal}
+use Rattle.refusal.specs.Tools.{chosen}
+use Rattle.refusal.specs.declared.Refusal.{Refusal}
+use Rattle.utf8.specs.Part.{part}
+use Rattle.utf8.specs.White.{leading, trimStart, trimEnd, trim}
+use Rattle.utf8.specs.Laws.{part-all, part-drop, part-length, start-part, start-le, trim-part}
+use Rattle.item.specs.Tree.{Yaml, null}
+use Rattle.item.specs.Encode.{encode}
+use Rattle.item.specs.Size.{item-length, encode-size}
+use Rattle.lines.specs.Lines.{Line}
+use Rattle.lines.specs.declared.Entry.{Entry}
+use Rattle.lines.specs.Table.{tableLines, Placed, IsEntry}
+use Rattle.scalar.specs.declared.Role.{Role}
+use Rattle.scalar.specs.declared.Role.the-variants.{AsValue, AsKey}
+use Rattle.scalar.specs.declared.Found.the-variants.{At, Nothing as NotFound}
+use Rattle.scalar.specs.Key.{quoteAfter, depthAfter, qualifies, keyEndFrom, keyEnd}
+use Rattle.scalar.specs.Read.{cost, charge}
+use Rattle.scalar.specs.Agree.{written}
+use Rattle.scalar.specs.Code.{foundOf}
+use Rattle.flow.specs.declared.Whole.{Whole}
+use Rattle.flow.specs.declared.Whole.the-variants.{Read, Refused}
+use Rattle.flow.specs.Flow.{flow}
+use Rattle.flow.specs.Agree.{WroteWhole, AgreesWhole}
+use Rattle.flow.specs.Values.{Named, named, unnamed}
+use Rattle.literal.specs.Literal.{leaf}
+use Rattle.literal.specs.Agree.{WroteBlock}
+use Rattle.literal.specs.Rows.{rows-end, rows-next}
+use Rattle.block.specs.declared.Behind.the-variants.{Nothing, Literal, Stripped, Value}
+use Rattle.block.specs.Block.{dashed, keyAt, startsComplex, lineValue, blockKey}
+use Rattle.block.specs.Agree.{opens, behindOf, keyHere, dashHere, WroteKey}
+
+-- ---- where a key ends
+
+none≢some : {X : Type 0} (k : ℕ) → none ≡ some k → X
+none≢some k e = absurd (let z : _≡_ {A = ℕ} 0 1 = cc in omega arith)
+
+some-inj : (a b : ℕ) → some a ≡ some b → a ≡ b
+some-inj a b e = cc
+
+key-from : (q d at : ℕ) (t : List ℕ) (k : ℕ) → keyEndFrom q d at t ≡ some k → k < at + length t
+unfolding keyEndFrom
+key-from q d at [] k e = none≢some k e
+key-from q d at (b ∷ t) k e =
+    chosen (qualifies q d (b ∷ t)) (some at) (keyEndFrom (quoteAfter q b) (depthAfter q d b) (suc at) t) e
+    (λ x p. omega (arith, some-inj at k p))
+    (λ x p. omega (arith, key-from (quoteAfter q b) (depthAfter q d b) (suc at) t k p))
+
+-- a key ends at a byte of its line
+pub key-end-within : (t : List ℕ) (k : ℕ) → keyEnd t ≡ some k → k < length t
+unfolding keyEnd
+key-end-within t k e = omega (arith, key-from 0 0 0 t k e)
+
+-- what the code found is what there is
+pub found-at : (o : Option ℕ) (k : ℕ) → At k ≡ foundOf o → o ≡ some k
+found-at none k e = absurd (let z : _≡_ {A = ℕ} 0 1 = cc in omega arith)
+found-at (some n) k e = let z : n ≡ k = cc in ap some z
+
+pub found-nothing : (o : Option ℕ) → NotFound ≡ foundOf o → o ≡ none
+found-nothing none e = refl
+found-nothing (some n) e = absurd (let z : _≡_ {A = ℕ} 0 1 = cc in omega arith)
+
+-- ---- parts that are trimmed
+
+-- a text trimmed at both ends, by the code's places
+pub trim-all : (s : List ℕ) (from to : ℕ) → from ≡ 0 + leading (part s 0 (length s)) → to ≡ from + length (trimEnd (part s from (length s))) → part s from to ≡ trim s
+trim-all s from to p q =
+    sym (trim-part s 0 (length s) from to (omega arith) (omega arith) p q) ∙ ap trim (part-all s)
+
+-- what stands behind the dash of a line
+module _ (text : List ℕ) (start end from : ℕ) (h : start < end) (k : end ≤ length text) (e : from ≡ start + 1 + leading (part text (start + 1) end)) where
+  pub dash-from-le : from ≤ end
+  dash-from-le = omega (arith, start-le text (start + 1) end (omega arith) k)
+
+  pub trim-start-part : part text from end ≡ trimStart (drop 1 (part text start end))
+  trim-start-part =
+      ap (λ (n : ℕ). part text n end) e
+      ∙ sym (start-part text (start + 1) end (omega arith) k)
+      ∙ ap trimStart (sym (part-drop text start end 1))
+
+  pub trim-start-passed : length (part text start end) - length (part text from end) ≡ from - start
+  trim-start-passed =
+      omega (arith, dash-from-le, part-length text start end (omega arith) k, part-length text from end dash-from-le k)
+
+-- ---- how a line begins
+
+pub dashed-empty : (t : List ℕ) → length t ≡ 0 → false ≡ dashed t
+unfolding dashed same bytes
+dashed-empty [] e = refl
+dashed-empty (b ∷ t) e = absurd (omega arith)
+
+pub dashed-other : (t : List ℕ) → 0 < length t → (getD t 0 0 ≡ ch "-" → ⊥) → false ≡ dashed t
+unfolding dashed same bytes
+dashed-other [] h n = absurd (omega arith)
+dashed-other (b ∷ t) h n = rw (ne-eqb b (ch "-") n)
+
+pub dashed-alone : (t : List ℕ) → length t ≡ 1 → getD t 0 0 ≡ ch "-" → true ≡ dashed t
+unfolding dashed same bytes
+dashed-alone [] h e = absurd (omega arith)
+dashed-alone (b ∷ []) h e = rw (eq-eqb b (ch "-") e)
+dashed-alone (b ∷ c ∷ t) h e = absurd (omega arith)
+
+pub dashed-more : (t : List ℕ) → 1 < length t → getD t 0 0 ≡ ch "-" → eqb (getD t 1 0) (ch " ") ≡ dashed t
+unfolding dashed same bytes
+dashed-more [] h e = absurd (omega arith)
+dashed-more (b ∷ []) h e = absurd (omega arith)
+dashed-more (b ∷ c ∷ t) h e = rw (eq-eqb b (ch "-") e) (go (eqb c (ch " ")))
+  where
+    go : (x : Bool) → x ≡ (x && true)
+    go true = refl
+    go false = refl
+
+module _ (t : List ℕ) where
+  pub opens-dashed : dashed t ≡ true → true ≡ opens t
+  unfolding opens
+  opens-dashed e = rw e
+
+  pub opens-key : dashed t ≡ false → (k : ℕ) → keyEnd t ≡ some k → true ≡ opens t
+  unfolding opens maybe
+  opens-key e k f = rw (e, f)
+
+  pub opens-not : dashed t ≡ false → keyEnd t ≡ none → false ≡ opens t
+  unfolding opens maybe
+  opens-not e f = rw (e, f)
+
+pub complex-question : (t : List ℕ) → 0 < length t → getD t 0 0 ≡ ch "?" → true ≡ startsComplex t
+unfolding startsComplex
+complex-question [] h e = absurd (omega arith)
+complex-question (b ∷ t) h e = rw (eq-eqb b (ch "?") e)
+
+pub complex-anchor : (t : List ℕ) → 0 < length t → getD t 0 0 ≡ ch "&" → true ≡ startsComplex t
+unfolding startsComplex
+complex-anchor [] h e = absurd (omega arith)
+complex-anchor (b ∷ t) h e = let z : b ≡ ch "&" = e in rw z
+
+pub complex-alias : (t : List ℕ) → 0 < length t → getD t 0 0 ≡ ch "*" → true ≡ startsComplex t
+unfolding startsComplex
+complex-alias [] h e = absurd (omega arith)
+complex-alias (b ∷ t) h e = let z : b ≡ ch "*" = e in rw z
+
+pub complex-not : (t : List ℕ) → 0 < length t → (getD t 0 0 ≡ ch "?" → ⊥) → (getD t 0 0 ≡ ch "&" → ⊥) → (getD t 0 0 ≡ ch "*" → ⊥) → false ≡ startsComplex t
+unfolding startsComplex
+complex-not [] h n m k = absurd (omega arith)
+complex-not (b ∷ t) h n m k = rw (ne-eqb b (ch "?") n, ne-eqb b (ch "&") m, ne-eqb b (ch "*") k)
+
+-- ---- what stands behind a colon
+
+pub is-empty : (t : List ℕ) → length t ≡ 0 → empty t ≡ true
+unfolding empty
+is-empty [] e = refl
+is-empty (b ∷ t) e = absurd (omega arith)
+
+pub not-empty : (t : List ℕ) → 0 < length t → empty t ≡ false
+unfolding empty
+not-empty [] h = absurd (omega arith)
+not-empty (b ∷ t) h = refl
+
+module _ (t : List ℕ) where
+  pub behind-nothing : length t ≡ 0 → Nothing ≡ behindOf t
+  unfolding behindOf if_then_else_
+  behind-nothing e = rw (is-empty t e)
+
+  module _ (h : 0 < length t) where
+    pub behind-literal : same t (bytes "|") ≡ true → Literal ≡ behindOf t
+    unfolding behindOf if_then_else_
+    behind-literal e = rw (not-empty t h, e)
+
+    module _ (e : same t (bytes "|") ≡ false) where
+      pub behind-stripped : same t (bytes "|-") ≡ true → Stripped ≡ behindOf t
+      unfolding behindOf if_then_else_
+      behind-stripped f = rw (not-empty t h, e, f)
+
+      pub behind-value : same t (bytes "|-") ≡ false → Value ≡ behindOf t
+      unfolding behindOf if_then_else_
+      behind-value f = rw (not-empty t h, e, f)
+
+-- ---- null
+
+pub null-full : (cap at : ℕ) (ls : List Line) → cap < at + 6 → leaf cap at null ls ≡ refused 50 0 0
+unfolding leaf cost charge _>>=_ if_then_else_
+null-full cap at ls h = rw (lt-leb (at + 6) cap h)
+
+pub null-done : (old new : List ℕ) (at i : ℕ) (ls : List Line) → i ≤ length ls → at + 6 ≤ length old → new ≡ sets old at (encode null)
+    → WroteBlock (leaf (length old) at null (drop i ls)) ls i old new at i (at + 6)
+unfolding leaf cost charge _>>=_ if_then_else_
+null-done old new at i ls h k e = record {
+  tree = null;
+  is = rw (le-leb (at + 6) (length old) k);
+  bytes = e;
+  grows = omega (arith, encode-size null);
+  fits = k;
+  on = omega arith;
+  within = h;
+}
+
+-- ---- one value of a line
+
+module _ (role : Role) (x : Answer (Yaml × ℕ)) (old new : List ℕ) (at : ℕ) (r : Whole) (w : AgreesWhole role x old new at r) where
+  pub whole-is : (u : ℕ) (key : Bool) → r ≡ Read u key → WroteWhole role x old new at u key
+  whole-is u key e = subst (AgreesWhole role x old new at) e w
+
+  pub stopped-is : (z : Refusal) → r ≡ Refused z → x ≡ refusal z
+  stopped-is z e = subst (AgreesWhole role x old new at) e w
+
+module _ (t : List ℕ) (n levels cap at : ℕ) (ls : List Line) where
+  pub line-refused : (k l s : ℕ) → flow cap n levels AsValue at t ≡ refused k l s → lineValue cap levels n at t ls ≡ refused k l s
+  unfolding lineValue _>>=_
+  line-refused k l s e = rw e
+
+pub line-done : (t : List ℕ) (n levels : ℕ) (old new : List ℕ) (at u : ℕ) (key : Bool) → WroteWhole AsValue (flow (length old) n levels AsValue at t) old new at u key
+    → (i : ℕ) (ls : List Line) → i ≤ length ls → WroteBlock (lineValue (length old) levels n at t (drop i ls)) ls i old new at i u
+unfolding lineValue written _>>=_
+line-done t n levels old new at u key v i ls h = record {
+  tree = v .tree;
+  is = rw (v .is);
+  bytes = v .bytes;
+  grows = v .grows;
+  fits = v .fits;
+  on = omega arith;
+  within = h;
+}
+
+-- ---- a key
+
+module _ (t : List ℕ) (n levels : ℕ) (old : List ℕ) (at : ℕ) where
+  abbrev read : Answer (List ℕ × ℕ)
+  read = blockKey (length old) levels n at t
+
+  abbrev whole : Answer (Yaml × ℕ)
+  whole = flow (length old) n levels AsKey at t
+
+  pub key-empty : length t ≡ 0 → read ≡ refused 14 n 0
+  unfolding blockKey ensure _>>_ _>>=_
+  key-empty e = rw (is-empty t e)
+
+  module _ (h : 0 < length t) where
+    pub key-complex : startsComplex t ≡ true → read ≡ refused 15 n 0
+    unfolding blockKey ensure _>>_ _>>=_
+    key-complex e = rw (not-empty t h, e)
+
+    module _ (simple : startsComplex t ≡ false) where
+      pub key-refused : (k l s : ℕ) → whole ≡ refused k l s → read ≡ refused k l s
+      unfolding blockKey ensure _>>_ _>>=_
+      key-refused k l s e = rw (not-empty t h, simple, e)
+
+      module _ (new : List ℕ) (u : ℕ) (key : Bool) (w : WroteWhole AsKey whole old new at u key) where
+        pub key-unnamed : key ≡ false → read ≡ refused 16 n 0
+        unfolding blockKey ensure given _>>_ _>>=_
+        key-unnamed k = rw (not-empty t h, simple, w .is, unnamed (w .tree) (sym (w .keyed) ∙ k))
+
+        pub key-done : key ≡ true → WroteKey read old new at u
+        unfolding blockKey ensure given _>>_ _>>=_
+        key-done k =
+            let m : Named (w .tree) = named (w .tree) (sym (w .keyed) ∙ k) in
+            record {
+              key = m .name;
+              is = rw (not-empty t h, simple, w .is, m .says);
+              bytes′ = w .bytes ∙ ap (sets old at) (m .put);
+              grows = omega (arith, w .grows, ap length (m .put), item-length 3 (m .name));
+              fits = w .fits;
+            }
+
+-- ---- the lines of the table
+
+module _ (text table : List ℕ) (count i : ℕ) (entry : Entry) (is : IsEntry table i entry) where
+  module _ (p : Placed text table count) (h : i < count) where
+    pub entry-ordered : entry .start ≤ entry .end
+    entry-ordered = omega (arith, is .start′, is .end′, p i h .ordered)
+
+    pub entry-inside : entry .end ≤ length text
+    entry-inside = omega (arith, is .end′, p i h .inside)
+
+  module _ (indent : ℕ) (h : i < count) where
+    pub dash-elsewhere : (entry .indent ≡ indent → ⊥) → false ≡ dashHere indent (drop i (tableLines text table count))
+    unfolding dashHere
+    dash-elsewhere n =
+        sym (ap (dashHere indent) (rows-next text table count i h) ∙ rw (← is .indent′, ne-eqb (entry .indent) indent n))
+
+    pub dash-at : entry .indent ≡ indent → dashed (part text (entry .start) (entry .end)) ≡ dashHere indent (drop i (tableLines text table count))
+    unfolding dashHere
+    dash-at e =
+        sym (ap (dashHere indent) (rows-next text table count i h) ∙ rw (← is .indent′, ← is .start′, ← is .end′, eq-eqb (entry .indent) indent e))
+
+    pub key-elsewhere : (entry .indent ≡ indent → ⊥) → none ≡ keyHere indent (drop i (tableLines text table count))
+    unfolding keyHere keyAt if_then_else_
+    key-elsewhere n =
+        sym (ap (keyHere indent) (rows-next text table count i h) ∙ rw (← is .indent′, ne-eqb (entry .indent) indent n))
+
+    pub key-on : entry .indent ≡ indent → keyEnd (part text (entry .start) (entry .end)) ≡ keyHere indent (drop i (tableLines text table count))
+    unfolding keyHere keyAt if_then_else_
+    key-on e =
+        sym (ap (keyHere indent) (rows-next text table count i h) ∙ rw (← is .indent′, ← is .start′, ← is .end′, eq-eqb (entry .indent) indent e))
+
+module _ (text table : List ℕ) (count i indent : ℕ) (e : i ≡ count) where
+  no-line : drop i (tableLines text table count) ≡ []
+  no-line = ap (λ (n : ℕ). drop n (tableLines text table count)) e ∙ rows-end text table count
+
+  pub dash-end : false ≡ dashHere indent (drop i (tableLines text table count))
+  unfolding dashHere
+  dash-end = sym (ap (dashHere indent) no-line)
+
+  pub key-end-none : none ≡ keyHere indent (drop i (tableLines text table count))
+  unfolding keyHere
+  key-end-none = sym (ap (keyHere indent) no-line)

@@ -1,0 +1,503 @@
+// Blocks (document 01, section 3): the value that lines are, written into the work bytes as it is read. Lines are read from a table
+// of entries, of which the first `count` count; `levels` more collections may be opened; of `out` the first `at` bytes are used.
+ghost use mathlib.Core.Path.{_≡_};
+ghost use mathlib.Core.List.{List};
+ghost use Prim.Native.Nat.{_+_, _≤_, _<_, suc};
+ghost use lib.ListN.{length, drop};
+ghost use Rattle.item.specs.Tree as items;
+ghost use Rattle.utf8.specs.White.{trim, trimStart};
+ghost use Rattle.lines.specs.Lines.{Line};
+ghost use Rattle.lines.specs.Table.{tableLines, lineAt};
+ghost use Rattle.scalar.specs.Code.{foundOf};
+ghost use Rattle.literal.specs.Literal as literals;
+ghost use Rattle.literal.specs.Agree.{Ready, AgreesBlock};
+ghost use Rattle.block.specs.Block as definition;
+ghost use Rattle.block.specs.Block.{startsComplex, lineValue, blockKey, valueBehind, entryAt, entriesOf, blockMap, inlineMap, itemBehind, blockSeq, within};
+ghost use Rattle.block.specs.Agree as agree;
+ghost use Rattle.block.specs.Agree.{behindOf, keyHere, dashHere, startAt, endAt, numberAt, columnAt, textAt, Splits, AgreesKey, AgreesEntry};
+use flow::Whole;
+use item::put_header;
+use item::put_null;
+use item::same_bytes;
+use keys::has_key;
+use lines::entry_at;
+use literal::BlockRead;
+use literal::literal;
+use refusal::Refusal;
+use scalar::Found;
+use scalar::Role;
+use scalar::key_end;
+use utf8::trim_end;
+use utf8::trim_start;
+
+// What reading a key answers: the bytes of work that are used.
+pub enum KeyRead {
+    Done(usize),
+    Refused(Refusal),
+}
+
+// What reading an entry answers: the first line that is left, and the ends of the key's item and of the value's.
+pub enum EntryRead {
+    Done {
+        next: usize,
+        key_end: usize,
+        used: usize,
+    },
+    Refused(Refusal),
+}
+
+// What stands behind a key's colon.
+pub enum Behind {
+    Nothing,
+    Literal,
+    Stripped,
+    Value,
+}
+
+// Whether a line is `-` or starts with `- `.
+fn dashed(line: &[u8]) -> bool
+    ensures { λ r. ⌜ r ≡ definition.dashed (now (line .entry)) ⌝ }
+{
+    if line.len() == 0 {
+        return false;
+    }
+    if line[0] != b'-' {
+        return false;
+    }
+    if line.len() == 1 {
+        return true;
+    }
+    line[1] == b' '
+}
+
+// Whether a sequence or a mapping begins with a line.
+fn opens(line: &[u8]) -> bool
+    requires { ⌜ length (now line) ≤ 65535 ⌝ }
+    ensures { λ r. ⌜ r ≡ agree.opens (now (line .entry)) ⌝ }
+{
+    if dashed(line) {
+        return true;
+    }
+    match key_end(line) {
+        Found::At(_) => true,
+        Found::Nothing => false,
+    }
+}
+
+// Whether a key starts with `?`, `&` or `*`.
+fn starts_complex(key: &[u8]) -> bool
+    requires { ⌜ 0 < length (now key) ⌝ }
+    ensures { λ r. ⌜ r ≡ startsComplex (now (key .entry)) ⌝ }
+{
+    match key[0] {
+        b'?' => true,
+        b'&' => true,
+        b'*' => true,
+        _ => false,
+    }
+}
+
+// What stands behind a key's colon, from there to the line's end.
+fn behind_colon(s: &[u8]) -> Behind
+    ensures { λ r. ⌜ r ≡ behindOf (trim (now (s .entry))) ⌝ }
+{
+    let from = trim_start(s, 0, s.len());
+    let to = trim_end(s, from, s.len());
+    if from == to {
+        return Behind::Nothing;
+    }
+    if same_bytes(&s[from..to], b"|") {
+        return Behind::Literal;
+    }
+    if same_bytes(&s[from..to], b"|-") {
+        return Behind::Stripped;
+    }
+    Behind::Value
+}
+
+fn null(i: usize, out: &mut [u8], at: usize) -> BlockRead
+    requires { ⌜ (at ≤ length (now out)) × (length (now out) ≤ 1048576) ⌝ }
+    ensures { λ r. ⌜ ((ls : List Line) → i ≤ length ls → AgreesBlock (literals.leaf (length (now (out .entry))) at items.null (drop i ls)) ls i (now (out .entry)) (now (out .exit)) at r) ⌝ }
+{
+    if out.len() - at < 6 {
+        return BlockRead::Refused(Refusal::WorkTooShort);
+    }
+    put_null(out, at);
+    BlockRead::Done {
+        next: i,
+        used: at + 6,
+    }
+}
+
+// A part of a line that is one value; the lines from `i` on are left.
+fn line_value(
+    s: &[u8],
+    i: usize,
+    levels: usize,
+    number: u32,
+    out: &mut [u8],
+    at: usize,
+) -> BlockRead
+    requires { ⌜ (length (now s) ≤ 65535) × (at ≤ length (now out)) × (length (now out) ≤ 1048576) ⌝ }
+    ensures { λ r. ⌜ ((ls : List Line) → i ≤ length ls → AgreesBlock (lineValue (length (now (out .entry))) levels number at (now (s .entry)) (drop i ls)) ls i (now (out .entry)) (now (out .exit)) at r) ⌝ }
+{
+    match flow::flow(s, levels, Role::AsValue, number, out, at) {
+        Whole::Read { used, key: _ } => BlockRead::Done { next: i, used },
+        Whole::Refused(e) => BlockRead::Refused(e),
+    }
+}
+
+// The same without the white space at both ends.
+fn trimmed_value(
+    s: &[u8],
+    i: usize,
+    levels: usize,
+    number: u32,
+    out: &mut [u8],
+    at: usize,
+) -> BlockRead
+    requires { ⌜ (length (now s) ≤ 65535) × (at ≤ length (now out)) × (length (now out) ≤ 1048576) ⌝ }
+    ensures { λ r. ⌜ ((ls : List Line) → i ≤ length ls → AgreesBlock (lineValue (length (now (out .entry))) levels number at (trim (now (s .entry))) (drop i ls)) ls i (now (out .entry)) (now (out .exit)) at r) ⌝ }
+{
+    let from = trim_start(s, 0, s.len());
+    let to = trim_end(s, from, s.len());
+    line_value(&s[from..to], i, levels, number, out, at)
+}
+
+// The key before a colon.
+fn block_key(s: &[u8], levels: usize, number: u32, out: &mut [u8], at: usize) -> KeyRead
+    requires { ⌜ (length (now s) ≤ 65535) × (at ≤ length (now out)) × (length (now out) ≤ 1048576) ⌝ }
+    ensures { λ r. ⌜ AgreesKey (blockKey (length (now (out .entry))) levels number at (trim (now (s .entry)))) (now (out .entry)) (now (out .exit)) at r ⌝ }
+{
+    let from = trim_start(s, 0, s.len());
+    let to = trim_end(s, from, s.len());
+    if from == to {
+        return KeyRead::Refused(Refusal::EmptyKey { line: number });
+    }
+    if starts_complex(&s[from..to]) {
+        return KeyRead::Refused(Refusal::ComplexKey { line: number });
+    }
+    match flow::flow(&s[from..to], levels, Role::AsKey, number, out, at) {
+        Whole::Refused(e) => KeyRead::Refused(e),
+        Whole::Read { used, key } => {
+            if key {
+                KeyRead::Done(used)
+            } else {
+                KeyRead::Refused(Refusal::KeyNotScalar { line: number })
+            }
+        }
+    }
+}
+
+// A value on a deeper line than `indent`; without one it is null.
+fn child(
+    text: &[u8],
+    table: &[u16],
+    count: usize,
+    i: usize,
+    indent: usize,
+    levels: usize,
+    out: &mut [u8],
+    at: usize,
+) -> BlockRead
+    requires { ⌜ Ready (now text) (now table) count × (i ≤ count) × (at ≤ length (now out)) × (length (now out) ≤ 1048576) ⌝ }
+    ensures { λ r. ⌜ AgreesBlock (definition.child (length (now (out .entry))) (within (length (now (out .entry))) levels) indent at (drop i (tableLines (now (text .entry)) (now (table .entry)) count))) (tableLines (now (text .entry)) (now (table .entry)) count) i (now (out .entry)) (now (out .exit)) at r ⌝ }
+{
+    if i == count {
+        return null(i, out, at);
+    }
+    let line = entry_at(table, i);
+    if line.indent > indent {
+        return block(text, table, count, i, levels, out, at);
+    }
+    null(i, out, at)
+}
+
+// The value of the entry that starts in line `i` at the place `from` of the text, with its colon at `split` behind that.
+fn entry_value(
+    text: &[u8],
+    table: &[u16],
+    count: usize,
+    i: usize,
+    from: usize,
+    split: usize,
+    levels: usize,
+    out: &mut [u8],
+    at: usize,
+) -> BlockRead
+    requires { ⌜ Ready (now text) (now table) count × (i < count) × Splits (now table) i from split × (at ≤ length (now out)) × (length (now out) ≤ 1048576) ⌝ }
+    ensures { λ r. ⌜ AgreesBlock (valueBehind (length (now (out .entry))) (within (length (now (out .entry))) levels) (numberAt (now (table .entry)) i) (columnAt (now (table .entry)) i from) at (trim (drop (suc split) (textAt (now (text .entry)) (now (table .entry)) i from))) (drop (i + 1) (tableLines (now (text .entry)) (now (table .entry)) count))) (tableLines (now (text .entry)) (now (table .entry)) count) (i + 1) (now (out .entry)) (now (out .exit)) at r ⌝ }
+{
+    let entry = entry_at(table, i);
+    let to = entry.end;
+    let line = &text[from..to];
+    let end = line.len();
+    let indent = entry.indent + (from - entry.start);
+    match behind_colon(&line[split + 1..end]) {
+        Behind::Nothing => child(text, table, count, i + 1, indent, levels, out, at),
+        Behind::Literal => literal(text, table, count, i + 1, indent, false, out, at),
+        Behind::Stripped => literal(text, table, count, i + 1, indent, true, out, at),
+        Behind::Value => trimmed_value(&line[split + 1..end], i + 1, levels, entry.number, out, at),
+    }
+}
+
+// That entry: its key, then its value.
+fn entry(
+    text: &[u8],
+    table: &[u16],
+    count: usize,
+    i: usize,
+    from: usize,
+    split: usize,
+    levels: usize,
+    out: &mut [u8],
+    at: usize,
+) -> EntryRead
+    requires { ⌜ Ready (now text) (now table) count × (i < count) × Splits (now table) i from split × (at ≤ length (now out)) × (length (now out) ≤ 1048576) ⌝ }
+    ensures { λ r. ⌜ AgreesEntry (entryAt (length (now (out .entry))) (within (length (now (out .entry))) levels) (numberAt (now (table .entry)) i) (columnAt (now (table .entry)) i from) (textAt (now (text .entry)) (now (table .entry)) i from) split at (drop (i + 1) (tableLines (now (text .entry)) (now (table .entry)) count))) (tableLines (now (text .entry)) (now (table .entry)) count) (i + 1) (now (out .entry)) (now (out .exit)) at r ⌝ }
+{
+    let to = from + split;
+    let line = entry_at(table, i);
+    match block_key(&text[from..to], levels, line.number, out, at) {
+        KeyRead::Refused(e) => EntryRead::Refused(e),
+        KeyRead::Done(key_end) => {
+            match entry_value(text, table, count, i, from, split, levels, out, key_end) {
+                BlockRead::Refused(e) => EntryRead::Refused(e),
+                BlockRead::Done { next, used } => EntryRead::Done {
+                    next,
+                    key_end,
+                    used,
+                },
+            }
+        }
+    }
+}
+
+// Whether line `i` goes on a mapping at this indentation, and where its key ends.
+fn key_at(text: &[u8], table: &[u16], count: usize, i: usize, indent: usize) -> Found
+    requires { ⌜ Ready (now text) (now table) count × (i ≤ count) ⌝ }
+    ensures { λ r. ⌜ r ≡ foundOf (keyHere indent (drop i (tableLines (now (text .entry)) (now (table .entry)) count))) ⌝ }
+{
+    if i == count {
+        return Found::Nothing;
+    }
+    let entry = entry_at(table, i);
+    if entry.indent != indent {
+        return Found::Nothing;
+    }
+    let start = entry.start;
+    let end = entry.end;
+    key_end(&text[start..end])
+}
+
+// The entries of a mapping from line `first` on: the lines at this indentation that have a key end.
+fn entries(
+    text: &[u8],
+    table: &[u16],
+    count: usize,
+    first: usize,
+    indent: usize,
+    levels: usize,
+    out: &mut [u8],
+    at: usize,
+) -> BlockRead
+    requires { ⌜ Ready (now text) (now table) count × (first ≤ count) × (at ≤ length (now out)) × (length (now out) ≤ 1048576) ⌝ }
+    ensures { λ r. ⌜ AgreesBlock (entriesOf (length (now (out .entry))) (within (length (now (out .entry))) levels) indent at (drop first (tableLines (now (text .entry)) (now (table .entry)) count))) (tableLines (now (text .entry)) (now (table .entry)) count) first (now (out .entry)) (now (out .exit)) at r ⌝ }
+{
+    let mut i = first;
+    let mut p = at;
+    loop {
+        let Found::At(split) = key_at(text, table, count, i, indent) else {
+            break;
+        };
+        let line = entry_at(table, i);
+        match entry(text, table, count, i, line.start, split, levels, out, p) {
+            EntryRead::Refused(e) => return BlockRead::Refused(e),
+            EntryRead::Done {
+                next,
+                key_end,
+                used,
+            } => {
+                if has_key(out, at, p, p + 6, key_end) {
+                    return BlockRead::Refused(Refusal::KeyTwice { line: line.number });
+                }
+                i = next;
+                p = used;
+            }
+        }
+    }
+    BlockRead::Done { next: i, used: p }
+}
+
+// A mapping that begins with line `i`.
+fn mapping(
+    text: &[u8],
+    table: &[u16],
+    count: usize,
+    i: usize,
+    indent: usize,
+    levels: usize,
+    out: &mut [u8],
+    at: usize,
+) -> BlockRead
+    requires { ⌜ Ready (now text) (now table) count × (i ≤ count) × (at ≤ length (now out)) × (length (now out) ≤ 1048576) ⌝ }
+    ensures { λ r. ⌜ AgreesBlock (blockMap (length (now (out .entry))) (within (length (now (out .entry))) levels) indent at (drop i (tableLines (now (text .entry)) (now (table .entry)) count))) (tableLines (now (text .entry)) (now (table .entry)) count) i (now (out .entry)) (now (out .exit)) at r ⌝ }
+{
+    if out.len() - at < 6 {
+        return BlockRead::Refused(Refusal::WorkTooShort);
+    }
+    match entries(text, table, count, i, indent, levels, out, at + 6) {
+        BlockRead::Refused(e) => BlockRead::Refused(e),
+        BlockRead::Done { next, used } => {
+            put_header(out, at, 5, used - at - 6);
+            BlockRead::Done { next, used }
+        }
+    }
+}
+
+// A mapping whose first entry stands behind a dash.
+fn inline_mapping(
+    text: &[u8],
+    table: &[u16],
+    count: usize,
+    i: usize,
+    from: usize,
+    split: usize,
+    levels: usize,
+    out: &mut [u8],
+    at: usize,
+) -> BlockRead
+    requires { ⌜ Ready (now text) (now table) count × (i < count) × Splits (now table) i from split × (at ≤ length (now out)) × (length (now out) ≤ 1048576) ⌝ }
+    ensures { λ r. ⌜ AgreesBlock (inlineMap (length (now (out .entry))) (within (length (now (out .entry))) levels) (numberAt (now (table .entry)) i) (columnAt (now (table .entry)) i from) (textAt (now (text .entry)) (now (table .entry)) i from) split at (drop (i + 1) (tableLines (now (text .entry)) (now (table .entry)) count))) (tableLines (now (text .entry)) (now (table .entry)) count) (i + 1) (now (out .entry)) (now (out .exit)) at r ⌝ }
+{
+    if out.len() - at < 6 {
+        return BlockRead::Refused(Refusal::WorkTooShort);
+    }
+    let line = entry_at(table, i);
+    let indent = line.indent + (from - line.start);
+    match entry(text, table, count, i, from, split, levels, out, at + 6) {
+        EntryRead::Refused(e) => BlockRead::Refused(e),
+        EntryRead::Done {
+            next,
+            key_end,
+            used,
+        } => match entries(text, table, count, next, indent, levels, out, used) {
+            BlockRead::Refused(e) => BlockRead::Refused(e),
+            BlockRead::Done { next: n, used: u } => {
+                if has_key(out, used, u, at + 12, key_end) {
+                    return BlockRead::Refused(Refusal::KeyTwice { line: line.number });
+                }
+                put_header(out, at, 5, u - at - 6);
+                BlockRead::Done { next: n, used: u }
+            }
+        },
+    }
+}
+
+// The item behind the dash of line `i`.
+fn item(
+    text: &[u8],
+    table: &[u16],
+    count: usize,
+    i: usize,
+    levels: usize,
+    out: &mut [u8],
+    at: usize,
+) -> BlockRead
+    requires { ⌜ Ready (now text) (now table) count × (i < count) × (startAt (now table) i < endAt (now table) i) × (at ≤ length (now out)) × (length (now out) ≤ 1048576) ⌝ }
+    ensures { λ r. ⌜ AgreesBlock (itemBehind (length (now (out .entry))) (within (length (now (out .entry))) levels) (lineAt (now (text .entry)) (now (table .entry)) i) at (trimStart (drop 1 (textAt (now (text .entry)) (now (table .entry)) i (startAt (now (table .entry)) i)))) (drop (i + 1) (tableLines (now (text .entry)) (now (table .entry)) count))) (tableLines (now (text .entry)) (now (table .entry)) count) (i + 1) (now (out .entry)) (now (out .exit)) at r ⌝ }
+{
+    let line = entry_at(table, i);
+    let end = line.end;
+    let from = trim_start(text, line.start + 1, end);
+    if from == end {
+        return child(text, table, count, i + 1, line.indent, levels, out, at);
+    }
+    let Found::At(split) = key_end(&text[from..end]) else {
+        return line_value(&text[from..end], i + 1, levels, line.number, out, at);
+    };
+    if levels == 0 {
+        return BlockRead::Refused(Refusal::TooDeep { line: line.number });
+    }
+    inline_mapping(text, table, count, i, from, split, levels - 1, out, at)
+}
+
+// Whether line `i` goes on a sequence at this indentation.
+fn goes_on(text: &[u8], table: &[u16], count: usize, i: usize, indent: usize) -> bool
+    requires { ⌜ Ready (now text) (now table) count × (i ≤ count) ⌝ }
+    ensures { λ r. ⌜ r ≡ dashHere indent (drop i (tableLines (now (text .entry)) (now (table .entry)) count)) ⌝ }
+{
+    if i == count {
+        return false;
+    }
+    let line = entry_at(table, i);
+    if line.indent != indent {
+        return false;
+    }
+    let start = line.start;
+    let end = line.end;
+    dashed(&text[start..end])
+}
+
+// A sequence that begins with line `first`.
+fn sequence(
+    text: &[u8],
+    table: &[u16],
+    count: usize,
+    first: usize,
+    indent: usize,
+    levels: usize,
+    out: &mut [u8],
+    at: usize,
+) -> BlockRead
+    requires { ⌜ Ready (now text) (now table) count × (first ≤ count) × (at ≤ length (now out)) × (length (now out) ≤ 1048576) ⌝ }
+    ensures { λ r. ⌜ AgreesBlock (blockSeq (length (now (out .entry))) (within (length (now (out .entry))) levels) indent at (drop first (tableLines (now (text .entry)) (now (table .entry)) count))) (tableLines (now (text .entry)) (now (table .entry)) count) first (now (out .entry)) (now (out .exit)) at r ⌝ }
+{
+    if out.len() - at < 6 {
+        return BlockRead::Refused(Refusal::WorkTooShort);
+    }
+    let mut i = first;
+    let mut p = at + 6;
+    while goes_on(text, table, count, i, indent) {
+        match item(text, table, count, i, levels, out, p) {
+            BlockRead::Refused(e) => return BlockRead::Refused(e),
+            BlockRead::Done { next, used } => {
+                i = next;
+                p = used;
+            }
+        }
+    }
+    put_header(out, at, 4, p - at - 6);
+    BlockRead::Done { next: i, used: p }
+}
+
+// The value that begins with line `i`: a sequence, a mapping or one flow value. Where no line is left it is null.
+pub fn block(
+    text: &[u8],
+    table: &[u16],
+    count: usize,
+    i: usize,
+    levels: usize,
+    out: &mut [u8],
+    at: usize,
+) -> BlockRead
+    requires { ⌜ Ready (now text) (now table) count × (i ≤ count) × (at ≤ length (now out)) × (length (now out) ≤ 1048576) ⌝ }
+    ensures { λ r. ⌜ AgreesBlock (definition.block (length (now (out .entry))) levels at (drop i (tableLines (now (text .entry)) (now (table .entry)) count))) (tableLines (now (text .entry)) (now (table .entry)) count) i (now (out .entry)) (now (out .exit)) at r ⌝ }
+{
+    if i == count {
+        return null(i, out, at);
+    }
+    let line = entry_at(table, i);
+    let start = line.start;
+    let end = line.end;
+    if !opens(&text[start..end]) {
+        return line_value(&text[start..end], i + 1, levels, line.number, out, at);
+    }
+    if levels == 0 {
+        return BlockRead::Refused(Refusal::TooDeep { line: line.number });
+    }
+    if dashed(&text[start..end]) {
+        return sequence(text, table, count, i, line.indent, levels - 1, out, at);
+    }
+    mapping(text, table, count, i, line.indent, levels - 1, out, at)
+}

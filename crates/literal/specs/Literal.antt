@@ -1,0 +1,58 @@
+-- Section 3 of document 01: literals (`parse_literal`), and what reading lines gives. Assumes nothing.
+use Prim.Native.Nat.{ℕ, _-_}
+use mathlib.Core.List.{List, [], _∷_, _++_}
+use mathlib.Core.Bool.{Bool, true, _&&_}
+use lib.Dec.{ltb, leb, eqb}
+use lib.ListN.{replicate}
+use Rattle.refusal.specs.Base.{Answer, good, _>>=_, if_then_else_, ch}
+use Rattle.item.specs.Tree.{Yaml, str}
+use Rattle.lines.specs.Lines.{Line}
+use Rattle.scalar.specs.declared.Role.the-variants.{AsValue}
+use Rattle.scalar.specs.Read.{cost, charge}
+
+-- what was read, the running sum, and the lines that are left
+abbrev pub Read : Type 0 → Type 0
+Read A = Answer (A × ℕ × List Line)
+
+-- a scalar adds its item's size to the running sum, against the `cap` bytes of work
+unfoldable pub leaf : ℕ → ℕ → Yaml → List Line → Read Yaml
+leaf cap sum y ls = do
+  sum′ ← charge cap sum (cost AsValue y)
+  good (y, sum′, ls)
+
+-- each line gives the extra spaces, its text, a newline
+unfoldable pub literalLine : ℕ → Line → List ℕ
+literalLine indent l = replicate (l .indent - indent) (ch " ") ++ l .text ++ (ch "\n" ∷ [])
+
+abbrev pub onto : List ℕ → List ℕ × List Line → List ℕ × List Line
+onto t (body, rest) = (t ++ body, rest)
+
+-- the lines at or beyond an indentation, until one less indented; and the lines that are left
+unfoldable pub literalLines : ℕ → List Line → List ℕ × List Line
+literalLines indent [] = ([], [])
+literalLines indent (l ∷ ls) =
+    if leb indent (l .indent) then onto (literalLine indent l) (literalLines indent ls) else ([], l ∷ ls)
+
+-- a literal needs a line deeper than its key; otherwise it is empty
+unfoldable pub literalUnder : ℕ → List Line → List ℕ × List Line
+literalUnder under [] = ([], [])
+literalUnder under (l ∷ ls) = if ltb under (l .indent) then literalLines (l .indent) (l ∷ ls) else ([], l ∷ ls)
+
+unfoldable pub allNewlines : List ℕ → Bool
+allNewlines [] = true
+allNewlines (b ∷ bs) = eqb b (ch "\n") && allNewlines bs
+
+-- a text without all its final newlines
+unfoldable pub dropNewlines : List ℕ → List ℕ
+dropNewlines [] = []
+dropNewlines (b ∷ bs) = if allNewlines (b ∷ bs) then [] else b ∷ dropNewlines bs
+
+-- the literal of a key that is indented by `under`; `|-` strips
+unfoldable pub literal : ℕ → Bool → ℕ → ℕ → List Line → Read Yaml
+literal cap strip under sum ls =
+    let (body, rest) = literalUnder under ls in
+    leaf cap sum (str (if strip then dropNewlines body else body)) rest
+
+unfoldable pub Literal-open : Unit {0}
+unfolding leaf literalLine literalLines literalUnder allNewlines dropNewlines literal
+Literal-open = tt

@@ -1,0 +1,41 @@
+-- What the walks over the lines of a literal ask and promise. Assumes nothing.
+use mathlib.Core.Path.{_≡_}
+use Prim.Native.Nat.{ℕ, _+_, _*_, _≤_, _<_}
+use mathlib.Core.List.{List}
+use mathlib.Core.Bool.{Bool}
+use lib.ListN.{length, drop, getD}
+use Rattle.refusal.specs.Base.{if_then_else_}
+use Rattle.item.specs.Tree.{Yaml, str}
+use Rattle.lines.specs.Lines.{Line}
+use Rattle.lines.specs.Table.{tableLines, Placed}
+use Rattle.literal.specs.declared.Body.{Body}
+use Rattle.literal.specs.Literal.{Read, leaf, literalLines, dropNewlines}
+
+-- the bytes that the lines from `i` on give, and the lines behind them
+module _ (text table : List ℕ) (count indent : ℕ) where
+  abbrev pub bodyFrom : ℕ → List ℕ
+  bodyFrom i = literalLines indent (drop i (tableLines text table count)) .0
+
+  abbrev pub restFrom : ℕ → List Line
+  restFrom i = literalLines indent (drop i (tableLines text table count)) .1
+
+-- no text ends before it starts
+abbrev pub Ordered : List ℕ → ℕ → Type 0
+Ordered table count = (i : ℕ) → i < count → getD table (4 * i + 1) 0 ≤ getD table (4 * i + 2) 0
+
+-- what is known of a literal from `first` on before the line `i`, whatever the text is
+abbrev pub Counted : List ℕ → ℕ → ℕ → ℕ → ℕ → ℕ → Type 0
+Counted table count indent first i len = (text : List ℕ) → Placed text table count
+    → (length (bodyFrom text table count indent first) ≡ len + length (bodyFrom text table count indent i)) × (restFrom text table count indent first ≡ restFrom text table count indent i)
+
+-- the lines of a literal from `first` up to `next`, whatever the text is
+pub record Extent (table : List ℕ) (count first indent : ℕ) (r : Body) : Type 0 where
+  pub on : first ≤ r .next
+  pub within : r .next ≤ count
+  pub small : r .len ≤ 131071 * count
+  pub size : (text : List ℕ) → Placed text table count → length (bodyFrom text table count indent first) ≡ r .len
+  pub left : (text : List ℕ) → Placed text table count → restFrom text table count indent first ≡ drop (r .next) (tableLines text table count)
+
+-- a literal of this body, with these lines behind it
+abbrev pub whole : ℕ → Bool → ℕ → List ℕ × List Line → Read Yaml
+whole cap strip sum b = leaf cap sum (str (if strip then dropNewlines (b .0) else b .0)) (b .1)

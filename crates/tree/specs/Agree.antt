@@ -1,0 +1,43 @@
+-- What reading a tree promises: the size that it tells, and what it leaves in the work bytes. Assumes nothing.
+use mathlib.Core.Path.{_≡_}
+use Prim.Native.Nat.{ℕ, _≤_}
+use mathlib.Core.List.{List, _++_}
+use lib.ListN.{length, drop, replicate}
+use lib.Seq.{sets}
+use Rattle.refusal.specs.Base.{Answer, good, refused}
+use Rattle.refusal.specs.Told.{refusal}
+use Rattle.item.specs.Tree.{Yaml}
+use Rattle.item.specs.Encode.{encode}
+use Rattle.tree.specs.declared.TreeAnswer.{TreeAnswer}
+use Rattle.tree.specs.declared.TreeAnswer.the-variants.{Read, Refused}
+
+-- what the code's answer says: the bytes of the tree, or the refusal
+abbrev pub answerOf : TreeAnswer → Answer ℕ
+answerOf (Read n) = good n
+answerOf (Refused e) = refusal e
+
+-- what it should say
+unfoldable pub sizeOf : Answer Yaml → Answer ℕ
+sizeOf (good y) = good (length (encode y))
+sizeOf (refused k l s) = refused k l s
+
+-- what is left in the work bytes: the tree, and behind it what was there; or zeros
+unfoldable pub left : Answer Yaml → List ℕ → List ℕ
+left (good y) old = encode y ++ drop (length (encode y)) old
+left (refused k l s) old = replicate (length old) 0
+
+-- a tree of `bytes` bytes, written from the front
+pub record WroteTree (answer : Answer Yaml) (old new : List ℕ) (bytes : ℕ) : Type 0 where
+  pub tree : Yaml
+  pub is : answer ≡ good tree
+  pub stored : new ≡ sets old 0 (encode tree)
+  pub size : bytes ≡ length (encode tree)
+  pub fits : bytes ≤ length old
+
+abbrev pub AgreesTree : Answer Yaml → List ℕ → List ℕ → TreeAnswer → Type 0
+AgreesTree answer old new (Read n) = WroteTree answer old new n
+AgreesTree answer old new (Refused e) = answer ≡ refusal e
+
+unfoldable pub Agree-open : Unit {0}
+unfolding sizeOf left
+Agree-open = tt

@@ -1,0 +1,82 @@
+// The first job: the tree of a whole text (document 01, sections 1 to 3).
+ghost use mathlib.Core.Path.{_≡_};
+ghost use Prim.Native.Nat.{_≤_, min};
+ghost use lib.ListN.{length};
+ghost use Rattle.lines.specs.Table.{tableLines};
+ghost use Rattle.literal.specs.Agree.{Ready};
+ghost use Rattle.tree.specs.Tree as definition;
+ghost use Rattle.tree.specs.Agree.{AgreesTree, answerOf, sizeOf, left};
+use block::block;
+use item::zero_bytes;
+use lines::LinesAnswer;
+use lines::entry_at;
+use lines::read_lines;
+use literal::BlockRead;
+use refusal::Refusal;
+use utf8::is_utf8;
+
+// What reading a tree answers: the bytes that it takes.
+pub enum TreeAnswer {
+    Read { bytes: usize },
+    Refused(Refusal),
+}
+
+// How many bytes of a lent output count.
+fn counted(len: usize) -> usize
+    ensures { λ r. ⌜ r ≡ min len 1048576 ⌝ }
+{
+    if len > 1048576 {
+        return 1048576;
+    }
+    len
+}
+
+// The value of all lines.
+fn tree_of(text: &[u8], table: &[u16], count: usize, out: &mut [u8]) -> TreeAnswer
+    requires { ⌜ Ready (now text) (now table) count × (length (now out) ≤ 1048576) ⌝ }
+    ensures { λ r. ⌜ AgreesTree (definition.treeOf (length (now (out .entry))) (tableLines (now (text .entry)) (now (table .entry)) count)) (now (out .entry)) (now (out .exit)) r ⌝ }
+{
+    match block(text, table, count, 0, 32, out, 0) {
+        BlockRead::Refused(e) => TreeAnswer::Refused(e),
+        BlockRead::Done { next, used } => {
+            if next == count {
+                return TreeAnswer::Read { bytes: used };
+            }
+            let line = entry_at(table, next);
+            TreeAnswer::Refused(Refusal::LinesLeft { line: line.number })
+        }
+    }
+}
+
+// The tree of a text, and the table of its lines.
+fn read(text: &[u8], table: &mut [u16; 8192], out: &mut [u8]) -> TreeAnswer
+    requires { ⌜ length (now out) ≤ 1048576 ⌝ }
+    ensures { λ r. ⌜ AgreesTree (definition.tree (length (now (out .entry))) (now (text .entry))) (now (out .entry)) (now (out .exit)) r ⌝ }
+{
+    if text.len() > 65535 {
+        return TreeAnswer::Refused(Refusal::TextTooLong);
+    }
+    if !is_utf8(text) {
+        return TreeAnswer::Refused(Refusal::NotUtf8);
+    }
+    match read_lines(text, table) {
+        LinesAnswer::Refused(e) => TreeAnswer::Refused(e),
+        LinesAnswer::Read { count } => tree_of(text, table, count, out),
+    }
+}
+
+// The tree of a text, written from the front of `work`; a refusal leaves zeros in all of it.
+pub fn read_tree(text: &[u8], work: &mut [u8]) -> TreeAnswer
+    ensures answer { λ r. ⌜ answerOf r ≡ sizeOf (definition.tree (length (now (work .entry))) (now (text .entry))) ⌝ }
+    ensures bytes { λ r. ⌜ now (work .exit) ≡ left (definition.tree (length (now (work .entry))) (now (text .entry))) (now (work .entry)) ⌝ }
+{
+    let mut table = [0u16; 8192];
+    let n = counted(work.len());
+    match read(text, &mut table, &mut work[..n]) {
+        TreeAnswer::Read { bytes } => TreeAnswer::Read { bytes },
+        TreeAnswer::Refused(e) => {
+            zero_bytes(work);
+            TreeAnswer::Refused(e)
+        }
+    }
+}
