@@ -54,15 +54,15 @@ le-number (b ∷ bs) h =
     let high : (b + 256 * number bs) / 256 ≡ number bs = omega arith in
     rw (low, high) (ap (λ (t : List ℕ). b ∷ t) (le-number bs (h .1)))
 
-number-small : (bs : List ℕ) → Bytes bs → number bs < 256 ^ length bs
+pub number-small : (bs : List ℕ) → Bytes bs → number bs < 256 ^ length bs
 unfolding number
 number-small [] h = omega arith
 number-small (b ∷ bs) h = omega (arith, number-small bs (h .1), pow-suc 256 (length bs))
 
-bytes-take : (n : ℕ) (s : List ℕ) → Bytes s → Bytes (take n s)
+pub bytes-take : (n : ℕ) (s : List ℕ) → Bytes s → Bytes (take n s)
 bytes-take n s h = bytes-left (take n s) (drop n s) (subst Bytes (sym (take-append-drop n s)) h)
 
-bytes-drop : (n : ℕ) (s : List ℕ) → Bytes s → Bytes (drop n s)
+pub bytes-drop : (n : ℕ) (s : List ℕ) → Bytes s → Bytes (drop n s)
 bytes-drop n s h = bytes-right (take n s) (drop n s) (subst Bytes (sym (take-append-drop n s)) h)
 
 pub record Headed (bs : List ℕ) (x : ℕ × List ℕ × List ℕ) : Type 0 where

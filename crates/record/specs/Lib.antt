@@ -1,0 +1,17 @@
+pub mod Meaning
+pub mod Record
+pub mod Rules
+pub mod Read
+pub mod Jobs
+pub mod Agree
+pub mod Exact
+pub mod Back
+pub mod Views
+pub mod Turns
+pub mod Chains
+pub mod Lookups
+pub mod Headers
+pub mod Answers
+pub mod Decide
+pub mod Theorems
+pub mod Examples

@@ -1,0 +1,6 @@
+pub mod Sound
+pub mod Tree
+pub mod Walks
+pub mod Contents
+pub mod Turns
+pub mod Levels

@@ -1,0 +1,38 @@
+-- What a walk over bytes answers, by places. Assumes nothing.
+use mathlib.Core.Path.{_≡_}
+use Prim.Native.Nat.{ℕ, suc, _+_, _≤_}
+use mathlib.Core.List.{List}
+use mathlib.Core.Bool.{Bool, false}
+use mathlib.Core.Option.{none, some}
+use lib.ListN.{length, drop}
+use Rattle.refusal.specs.Base.{maybe}
+use Rattle.item.specs.Decode.{Decoder, decodeEntries, decode}
+use Rattle.value.specs.Sound.{sound}
+use Rattle.value.specs.declared.End.{End}
+use Rattle.value.specs.declared.End.the-variants.{At, Nowhere}
+
+-- what a decoder reads at a place ends at another
+pub record Read {A : Type 0} (f : Decoder A) (s : List ℕ) (at to : ℕ) : Type 0 where
+  pub value : A
+  pub is : f (drop at s) ≡ some (value, drop to s)
+  pub forward : at + 6 ≤ to
+  pub fits : to ≤ length s
+
+-- the end of what a decoder reads, or that it reads nothing
+abbrev pub Walks : {A : Type 0} → Decoder A → List ℕ → ℕ → End → Type 0
+Walks f s at (At to) = Read f s at to
+Walks f s at Nowhere = f (drop at s) ≡ none
+
+-- whether sound entries stand up to the end, read in so many turns
+unfoldable pub entriesIn : ℕ → ℕ → List ℕ → Bool
+entriesIn levels turns bs = maybe (decodeEntries (λ r. decode levels r) turns bs) false sound
+
+-- an entry at a place is good, and all hangs on those behind it
+pub record Onward (levels : ℕ) (s : List ℕ) (at to : ℕ) : Type 0 where
+  pub is : (turns : ℕ) → entriesIn levels (suc turns) (drop at s) ≡ entriesIn levels turns (drop to s)
+  pub forward : at + 6 ≤ to
+  pub fits : to ≤ length s
+
+abbrev pub Follows : ℕ → List ℕ → ℕ → End → Type 0
+Follows levels s at (At to) = Onward levels s at to
+Follows levels s at Nowhere = (turns : ℕ) → entriesIn levels (suc turns) (drop at s) ≡ false
