@@ -55,7 +55,7 @@ pub enum Behind {
 }
 
 // Whether a line is `-` or starts with `- `.
-fn dashed(line: &[u8]) -> bool
+pub fn dashed(line: &[u8]) -> bool
     ensures { λ r. ⌜ r ≡ definition.dashed (now (line .entry)) ⌝ }
 {
     if line.len() == 0 {

@@ -59,7 +59,7 @@ unfolding number
 number-small [] h = omega arith
 number-small (b ∷ bs) h = omega (arith, number-small bs (h .1), pow-suc 256 (length bs))
 
-pub bytes-take : (n : ℕ) (s : List ℕ) → Bytes s → Bytes (take n s)
+bytes-take : (n : ℕ) (s : List ℕ) → Bytes s → Bytes (take n s)
 bytes-take n s h = bytes-left (take n s) (drop n s) (subst Bytes (sym (take-append-drop n s)) h)
 
 pub bytes-drop : (n : ℕ) (s : List ℕ) → Bytes s → Bytes (drop n s)

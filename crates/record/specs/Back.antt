@@ -25,10 +25,6 @@ use Rattle.record.specs.Read.{fieldOf, asText, asOptional, asFlag, asIte
 abbrev Short : List ℕ → Type 0
 Short s = length s < 256 ^ 4
 
-joined-length : (p : List ℕ) (ps : List (List ℕ)) → length (joined (p ∷ ps)) ≡ length p + length (joined ps)
-unfolding joined
-joined-length p ps = length-append p (joined ps)
-
 -- ---- a field, an item, one thing behind another
 
 field-back : {A : Type 0} (view : Yaml → Option A) (l : ℕ) (y : Yaml) (a : A) (r : List ℕ) → view y ≡ some a → sound y ≡ true → levels y ≤ l → Short (encode y)

@@ -39,7 +39,7 @@ enum Count {
     Bad,
 }
 
-fn is_step_field(key: &[u8]) -> bool
+pub fn is_step_field(key: &[u8]) -> bool
     ensures { λ r. ⌜ r ≡ oneOf (now (key .entry)) stepFields ⌝ }
 {
     if same_bytes(key, b"name") {
@@ -57,7 +57,7 @@ fn is_step_field(key: &[u8]) -> bool
     same_bytes(key, b"expect")
 }
 
-fn is_built_in(key: &[u8]) -> bool
+pub fn is_built_in(key: &[u8]) -> bool
     ensures { λ r. ⌜ r ≡ oneOf (now (key .entry)) builtInSteps ⌝ }
 {
     if same_bytes(key, b"repeat") {

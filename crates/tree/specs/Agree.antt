@@ -8,6 +8,12 @@ use Rattle.refusal.specs.Base.{Answer, good, refused}
 use Rattle.refusal.specs.Told.{refusal}
 use Rattle.item.specs.Tree.{Yaml}
 use Rattle.item.specs.Encode.{encode}
+use Rattle.lines.specs.Lines.{significantLines}
+use Rattle.lines.specs.Table.{tableLines}
+use Rattle.literal.specs.Agree.{Ready}
+use Rattle.tree.specs.declared.TreeRead.{TreeRead}
+use Rattle.tree.specs.declared.TreeRead.the-variants.{Done, Refused as Unread}
+use Rattle.tree.specs.Tree.{treeOf}
 use Rattle.tree.specs.declared.TreeAnswer.{TreeAnswer}
 use Rattle.tree.specs.declared.TreeAnswer.the-variants.{Read, Refused}
 
@@ -37,6 +43,17 @@ pub record WroteTree (answer : Answer Yaml) (old new : List ℕ) (bytes : ℕ) :
 abbrev pub AgreesTree : Answer Yaml → List ℕ → List ℕ → TreeAnswer → Type 0
 AgreesTree answer old new (Read n) = WroteTree answer old new n
 AgreesTree answer old new (Refused e) = answer ≡ refusal e
+
+-- the same, with the lines that were read
+pub record WroteLined (answer : Answer Yaml) (text table old new : List ℕ) (bytes count : ℕ) : Type 0 where
+  pub wrote : WroteTree answer old new bytes
+  pub ready : Ready text table count
+  pub lined : significantLines text ≡ good (tableLines text table count)
+  pub is-tree : answer ≡ treeOf (length old) (tableLines text table count)
+
+abbrev pub AgreesRead : Answer Yaml → List ℕ → List ℕ → List ℕ → List ℕ → TreeRead → Type 0
+AgreesRead answer text table old new (Done n count) = WroteLined answer text table old new n count
+AgreesRead answer text table old new (Unread e) = answer ≡ refusal e
 
 unfoldable pub Agree-open : Unit {0}
 unfolding sizeOf left

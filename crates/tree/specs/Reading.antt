@@ -21,10 +21,12 @@ use Rattle.lines.specs.declared.LinesAnswer.the-variants.{Read as Lined, Refuse
 use Rattle.literal.specs.Agree.{Ready, WroteBlock}
 use Rattle.literal.specs.Ends.{lines-end}
 use Rattle.block.specs.Block.{block}
+use Rattle.tree.specs.declared.TreeRead.{TreeRead}
+use Rattle.tree.specs.declared.TreeRead.the-variants.{Done, Refused as Unread}
 use Rattle.tree.specs.declared.TreeAnswer.{TreeAnswer}
 use Rattle.tree.specs.declared.TreeAnswer.the-variants.{Read, Refused}
 use Rattle.tree.specs.Tree.{admitted, nothingLeft, treeOf, tree}
-use Rattle.tree.specs.Agree.{answerOf, sizeOf, left, WroteTree, AgreesTree}
+use Rattle.tree.specs.Agree.{answerOf, sizeOf, left, WroteTree, AgreesTree, WroteLined, AgreesRead}
 
 -- ---- the lines' value
 
@@ -81,6 +83,42 @@ ready text table n h k f = record { short = h; whole = k; few = f .few; placed =
 pub agrees-tree : (x y : Answer Yaml) (old new : List ℕ) (r : TreeAnswer) → x ≡ y → AgreesTree y old new r → AgreesTree x old new r
 agrees-tree x y old new (Read n) e w = record { tree = w .tree; is = e ∙ w .is; stored = w .stored; size = w .size; fits = w .fits }
 agrees-tree x y old new (Refused z) e w = e ∙ w
+
+-- what the answer on the lines' value says in each arm of a `match` on it
+module _ (x : Answer Yaml) (old new : List ℕ) (r : TreeAnswer) (w : AgreesTree x old new r) where
+  pub tree-read : (n : ℕ) → r ≡ Read n → WroteTree x old new n
+  tree-read n e = subst (AgreesTree x old new) e w
+
+  pub tree-stopped : (z : Refusal) → r ≡ Refused z → x ≡ refusal z
+  tree-stopped z e = subst (AgreesTree x old new) e w
+
+pub read-lined : (text table old new : List ℕ) (count n : ℕ) → length text ≤ 65535 → length table ≡ 8192 → isUtf8 text ≡ true → length old ≤ 1048576 → Filled text table count
+    → WroteTree (treeOf (length old) (tableLines text table count)) old new n → WroteLined (tree (length old) text) text table old new n count
+read-lined text table old new count n h k u m f w =
+    let e : tree (length old) text ≡ treeOf (length old) (tableLines text table count) = tree-lined (length old) text h u (tableLines text table count) (f .lines) m in
+    record {
+      wrote = record { tree = w .tree; is = e ∙ w .is; stored = w .stored; size = w .size; fits = w .fits };
+      ready = ready text table count h k f;
+      lined = f .lines;
+      is-tree = e;
+    }
+
+-- what the answer with lines says in each arm of a `match` on it
+module _ (x : Answer Yaml) (text table old new : List ℕ) (r : TreeRead) (w : AgreesRead x text table old new r) where
+  pub read-lined-is : (n count : ℕ) → r ≡ Done n count → WroteLined x text table old new n count
+  read-lined-is n count e = subst (AgreesRead x text table old new) e w
+
+  pub read-stopped : (z : Refusal) → r ≡ Unread z → x ≡ refusal z
+  read-stopped z e = subst (AgreesRead x text table old new) e w
+
+-- the answer of the reading with lines, as that of a tree
+abbrev pub plain : TreeRead → TreeAnswer
+plain (Done n count) = Read n
+plain (Unread e) = Refused e
+
+pub agrees-plain : (x : Answer Yaml) (text table old new : List ℕ) (r : TreeRead) → AgreesRead x text table old new r → AgreesTree x old new (plain r)
+agrees-plain x text table old new (Done n count) w = w .wrote
+agrees-plain x text table old new (Unread e) w = w
 
 -- ---- the work bytes
 

@@ -5,7 +5,7 @@ ghost use lib.ListN.{length};
 ghost use Rattle.lines.specs.Table.{tableLines};
 ghost use Rattle.literal.specs.Agree.{Ready};
 ghost use Rattle.tree.specs.Tree as definition;
-ghost use Rattle.tree.specs.Agree.{AgreesTree, answerOf, sizeOf, left};
+ghost use Rattle.tree.specs.Agree.{AgreesTree, AgreesRead, answerOf, sizeOf, left};
 use block::block;
 use item::zero_bytes;
 use lines::LinesAnswer;
@@ -18,6 +18,12 @@ use utf8::is_utf8;
 // What reading a tree answers: the bytes that it takes.
 pub enum TreeAnswer {
     Read { bytes: usize },
+    Refused(Refusal),
+}
+
+// What reading a tree with its lines answers: the bytes that it takes, and how many lines there are.
+pub enum TreeRead {
+    Done { bytes: usize, count: usize },
     Refused(Refusal),
 }
 
@@ -49,19 +55,22 @@ fn tree_of(text: &[u8], table: &[u16], count: usize, out: &mut [u8]) -> TreeAnsw
 }
 
 // The tree of a text, and the table of its lines.
-fn read(text: &[u8], table: &mut [u16; 8192], out: &mut [u8]) -> TreeAnswer
+pub fn read_with(text: &[u8], table: &mut [u16; 8192], out: &mut [u8]) -> TreeRead
     requires { ⌜ length (now out) ≤ 1048576 ⌝ }
-    ensures { λ r. ⌜ AgreesTree (definition.tree (length (now (out .entry))) (now (text .entry))) (now (out .entry)) (now (out .exit)) r ⌝ }
+    ensures { λ r. ⌜ AgreesRead (definition.tree (length (now (out .entry))) (now (text .entry))) (now (text .entry)) (now (table .exit)) (now (out .entry)) (now (out .exit)) r ⌝ }
 {
     if text.len() > 65535 {
-        return TreeAnswer::Refused(Refusal::TextTooLong);
+        return TreeRead::Refused(Refusal::TextTooLong);
     }
     if !is_utf8(text) {
-        return TreeAnswer::Refused(Refusal::NotUtf8);
+        return TreeRead::Refused(Refusal::NotUtf8);
     }
     match read_lines(text, table) {
-        LinesAnswer::Refused(e) => TreeAnswer::Refused(e),
-        LinesAnswer::Read { count } => tree_of(text, table, count, out),
+        LinesAnswer::Refused(e) => TreeRead::Refused(e),
+        LinesAnswer::Read { count } => match tree_of(text, table, count, out) {
+            TreeAnswer::Refused(e) => TreeRead::Refused(e),
+            TreeAnswer::Read { bytes } => TreeRead::Done { bytes, count },
+        },
     }
 }
 
@@ -72,9 +81,9 @@ pub fn read_tree(text: &[u8], work: &mut [u8]) -> TreeAnswer
 {
     let mut table = [0u16; 8192];
     let n = counted(work.len());
-    match read(text, &mut table, &mut work[..n]) {
-        TreeAnswer::Read { bytes } => TreeAnswer::Read { bytes },
-        TreeAnswer::Refused(e) => {
+    match read_with(text, &mut table, &mut work[..n]) {
+        TreeRead::Done { bytes, count: _ } => TreeAnswer::Read { bytes },
+        TreeRead::Refused(e) => {
             zero_bytes(work);
             TreeAnswer::Refused(e)
         }

@@ -1,0 +1,4 @@
+pub mod Agree
+pub mod Meanings
+pub mod Laws
+pub mod Texts

@@ -1,0 +1,307 @@
+// A tree where it stands in its bytes: entries, values found by their keys, scalars as key text. What is written is stored as far as
+// it fits and summed beyond that, so that one walk serves for both.
+ghost use mathlib.Core.Path.{_≡_};
+ghost use mathlib.Core.List.{List, []};
+ghost use mathlib.Core.Bool.{Bool, true, false};
+ghost use mathlib.Core.Option.{Option, none};
+ghost use Prim.Native.Nat.{ℕ, _+_, _-_, _≤_, _<_};
+ghost use lib.ListN.{length, take, drop, getD};
+ghost use lib.Seq.{sets};
+ghost use lib.Dec.{ltb};
+ghost use Rattle.refusal.specs.Base.{maybe};
+ghost use Rattle.item.specs.Tree as trees;
+ghost use Rattle.item.specs.Tree.{Yaml, Entries, pair};
+ghost use Rattle.item.specs.Encode as items;
+ghost use Rattle.item.specs.Encode.{head, number, encode, signed};
+ghost use Rattle.item.specs.Decode.{untwos};
+ghost use Rattle.item.specs.Back.{Ranged};
+ghost use Rattle.scalar.specs.Scalars.{text, boolText, intText};
+ghost use Rattle.nodes.specs.declared.Pair.the-variants as pairs;
+ghost use Rattle.nodes.specs.Agree.{Stands, Holds, get, Finds, Inside, Stored, Near, RendersAs, RendersNear, kindOf, PairPlaces};
+use item::Header;
+use item::copy;
+use item::header_at;
+use item::put_header;
+use item::same_bytes;
+use refusal::Refusal;
+use scalar::Found;
+use scalar::integers::int_len;
+use scalar::integers::put_int_text;
+
+// An integer by its sign and its magnitude.
+pub struct Integer {
+    pub negative: bool,
+    pub magnitude: u64,
+}
+
+// What rendering a value as key text answers: where the text's item ends.
+pub enum Rendered {
+    Text(usize),
+    NoScalar,
+}
+
+// What writing a part answers: where it ends.
+pub enum Part {
+    Done(usize),
+    Refused(Refusal),
+}
+
+// An entry of a mapping in its bytes: where its key's text begins and ends, which is where its value's item begins; the value's kind
+// and its end.
+pub enum Pair {
+    At {
+        start: usize,
+        end: usize,
+        kind: usize,
+        next: usize,
+    },
+    Nowhere,
+}
+
+// Copies bytes if they fit, and tells where they end.
+pub fn put(out: &mut [u8], at: usize, bytes: &[u8]) -> usize
+    requires { ⌜ (length (now bytes) ≤ 1048576) × (at ≤ 4503599627370496) ⌝ }
+    ensures { λ r. ⌜ Stored (now (out .entry)) (now (out .exit)) at (now (bytes .entry)) r ⌝ }
+{
+    let end = at + bytes.len();
+    if end <= out.len() {
+        copy(out, at, bytes);
+    }
+    end
+}
+
+// The header of an item that ends at `end`, if that fits.
+pub fn close(out: &mut [u8], at: usize, kind: usize, end: usize)
+    requires { ⌜ (at + 6 ≤ end) × (kind < 65536) × (length (now out) ≤ 1048576) ⌝ }
+    ensures { λ _. ⌜ ((end ≤ length (now (out .entry)) → now (out .exit) ≡ sets (now (out .entry)) at (head kind (end - at - 6))) × (length (now (out .exit)) ≡ length (now (out .entry)))) ⌝ }
+{
+    if end <= out.len() {
+        put_header(out, at, kind, end - at - 6);
+    }
+}
+
+// A string's item.
+pub fn put_text(out: &mut [u8], at: usize, text: &[u8]) -> usize
+    requires { ⌜ (length (now text) ≤ 1048576) × (at ≤ 2251799813685248) × (length (now out) ≤ 1048576) ⌝ }
+    ensures { λ r. ⌜ Stored (now (out .entry)) (now (out .exit)) at (items.item 3 (now (text .entry))) r ⌝ }
+{
+    let end = put(out, at + 6, text);
+    close(out, at, 3, end);
+    end
+}
+
+// A null item.
+pub fn put_null(out: &mut [u8], at: usize) -> usize
+    requires { ⌜ (at ≤ 2251799813685248) × (length (now out) ≤ 1048576) ⌝ }
+    ensures { λ r. ⌜ Stored (now (out .entry)) (now (out .exit)) at (encode trees.null) r ⌝ }
+{
+    let end = at + 6;
+    close(out, at, 0, end);
+    end
+}
+
+// A byte as a wider number; the caller owes nothing for the cast.
+fn wide(b: u8) -> u64
+    ensures { λ r. ⌜ (r ≡ b) × (r < 256) ⌝ }
+{
+    b as u64
+}
+
+// The number of eight bytes, the lowest first.
+fn number_at(s: &[u8], at: usize) -> u64
+    requires { ⌜ at + 8 ≤ length (now s) ⌝ }
+    ensures { λ r. ⌜ r ≡ number (take 8 (drop at (now (s .entry)))) ⌝ }
+{
+    let a = wide(s[at]);
+    let b = wide(s[at + 1]);
+    let c = wide(s[at + 2]);
+    let d = wide(s[at + 3]);
+    let e = wide(s[at + 4]);
+    let f = wide(s[at + 5]);
+    let g = wide(s[at + 6]);
+    let h = wide(s[at + 7]);
+    a
+        + 256 * b
+        + 65536 * c
+        + 16777216 * d
+        + 4294967296 * e
+        + 1099511627776 * f
+        + 281474976710656 * g
+        + 72057594037927936 * h
+}
+
+fn integer_at(s: &[u8], at: usize) -> Integer
+    requires { ⌜ at + 8 ≤ length (now s) ⌝ }
+    ensures { λ r. ⌜ signed (r .negative) (r .magnitude) ≡ untwos (number (take 8 (drop at (now (s .entry))))) ⌝ }
+{
+    let n = number_at(s, at);
+    if n < 9223372036854775808 {
+        return Integer {
+            negative: false,
+            magnitude: n,
+        };
+    }
+    Integer {
+        negative: true,
+        magnitude: 18446744073709551615 - n + 1,
+    }
+}
+
+fn put_integer(out: &mut [u8], at: usize, negative: bool, magnitude: u64) -> usize
+    requires { ⌜ (at ≤ 2251799813685248) × (length (now out) ≤ 1048576) ⌝ }
+    ensures { λ r. ⌜ Stored (now (out .entry)) (now (out .exit)) at (items.item 3 (intText (signed negative magnitude))) r ⌝ }
+{
+    let len = int_len(negative, magnitude);
+    let end = at + 6 + len;
+    if end <= out.len() {
+        put_header(out, at, 3, len);
+        put_int_text(out, at + 6, negative, magnitude);
+    }
+    end
+}
+
+fn put_bool(s: &[u8], from: usize, out: &mut [u8], at: usize) -> usize
+    requires { ⌜ (from < length (now s)) × (at ≤ 2251799813685248) × (length (now out) ≤ 1048576) ⌝ }
+    ensures { λ r. ⌜ Stored (now (out .entry)) (now (out .exit)) at (items.item 3 (boolText (ltb 0 (getD (now (s .entry)) from 0)))) r ⌝ }
+{
+    if s[from] == 0 {
+        return put_text(out, at, b"false");
+    }
+    put_text(out, at, b"true")
+}
+
+// The value at `p` as key text.
+pub fn render(s: &[u8], p: usize, out: &mut [u8], at: usize) -> Rendered
+    requires { ⌜ (length (now s) ≤ 1048576) × (at ≤ 2251799813685248) × (length (now out) ≤ 1048576) ⌝ }
+    ensures { λ r. ⌜ RendersNear (now (out .entry)) (now (out .exit)) at r ⌝ }
+    ensures text { λ r. ⌜ ((y : Yaml) → Ranged y → Stands (now (s .entry)) p (encode y) → RendersAs (text y) (now (out .entry)) (now (out .exit)) at r) ⌝ }
+{
+    let head = header_at(s, p);
+    let Header::Item { kind, from, to } = head else {
+        return Rendered::NoScalar;
+    };
+    if kind == 1 {
+        if from == to {
+            return Rendered::NoScalar;
+        }
+        return Rendered::Text(put_bool(s, from, out, at));
+    }
+    if kind == 2 {
+        if to - from < 8 {
+            return Rendered::NoScalar;
+        }
+        let n = integer_at(s, from);
+        return Rendered::Text(put_integer(out, at, n.negative, n.magnitude));
+    }
+    if kind == 3 {
+        return Rendered::Text(put(out, at, &s[p..to]));
+    }
+    Rendered::NoScalar
+}
+
+pub fn pair_at(s: &[u8], at: usize) -> Pair
+    ensures { λ r. ⌜ PairPlaces (now (s .entry)) at r ⌝ }
+    ensures entry { λ r. ⌜ ((k : List ℕ) (v : Yaml) (es : Entries) → length (now (s .entry)) ≤ 1048576 → Stands (now (s .entry)) at (encode (pair k v es)) → r ≡ pairs.At (at + 6) (at + 6 + length k) (kindOf v) (at + 6 + length k + length (encode v))) ⌝ }
+{
+    let head = header_at(s, at);
+    let Header::Item {
+        kind: _,
+        from: start,
+        to: end,
+    } = head
+    else {
+        return Pair::Nowhere;
+    };
+    let value = header_at(s, end);
+    let Header::Item {
+        kind,
+        from: _,
+        to: next,
+    } = value
+    else {
+        return Pair::Nowhere;
+    };
+    Pair::At {
+        start,
+        end,
+        kind,
+        next,
+    }
+}
+
+// The place of a key's value among the entries from `from` to `to`.
+pub fn find(s: &[u8], from: usize, to: usize, key: &[u8]) -> Found
+    requires { ⌜ (length (now s) ≤ 1048576) × (to ≤ length (now s)) ⌝ }
+    ensures { λ r. ⌜ Inside (now (s .entry)) r ⌝ }
+    ensures value { λ r. ⌜ ((es : Entries) → Holds (now (s .entry)) from to es → Finds (now (s .entry)) (get (now (key .entry)) es) r) ⌝ }
+{
+    let mut at = from;
+    while at < to {
+        let pair = pair_at(s, at);
+        let Pair::At {
+            start,
+            end,
+            kind: _,
+            next,
+        } = pair
+        else {
+            return Found::Nothing;
+        };
+        if same_bytes(&s[start..end], key) {
+            return Found::At(end);
+        }
+        at = next;
+    }
+    Found::Nothing
+}
+
+// The text of a value that was looked for, or an empty one where there is no scalar.
+pub fn put_found(s: &[u8], found: Found, out: &mut [u8], at: usize) -> usize
+    requires { ⌜ (length (now s) ≤ 1048576) × (at ≤ 2251799813685248) × (length (now out) ≤ 1048576) ⌝ }
+    ensures { λ r. ⌜ Near (now (out .entry)) (now (out .exit)) at r ⌝ }
+    ensures text { λ r. ⌜ ((o : Option Yaml) → Finds (now (s .entry)) o found → Stored (now (out .entry)) (now (out .exit)) at (items.item 3 (maybe (maybe o none text) [] (λ t. t))) r) ⌝ }
+{
+    let Found::At(p) = found else {
+        return put_text(out, at, b"");
+    };
+    match render(s, p, out, at) {
+        Rendered::Text(end) => end,
+        Rendered::NoScalar => put_text(out, at, b""),
+    }
+}
+
+// The same, or null where there is no scalar.
+pub fn put_optional(s: &[u8], found: Found, out: &mut [u8], at: usize) -> usize
+    requires { ⌜ (length (now s) ≤ 1048576) × (at ≤ 2251799813685248) × (length (now out) ≤ 1048576) ⌝ }
+    ensures { λ r. ⌜ Near (now (out .entry)) (now (out .exit)) at r ⌝ }
+    ensures text { λ r. ⌜ ((o : Option Yaml) → Finds (now (s .entry)) o found → Stored (now (out .entry)) (now (out .exit)) at (maybe (maybe o none text) (encode trees.null) (λ t. items.item 3 t)) r) ⌝ }
+{
+    let Found::At(p) = found else {
+        return put_null(out, at);
+    };
+    match render(s, p, out, at) {
+        Rendered::Text(end) => end,
+        Rendered::NoScalar => put_null(out, at),
+    }
+}
+
+// The item of a value that was looked for, as it stands, or null.
+pub fn put_value(s: &[u8], found: Found, out: &mut [u8], at: usize) -> usize
+    requires { ⌜ (length (now s) ≤ 1048576) × (at ≤ 2251799813685248) × (length (now out) ≤ 1048576) ⌝ }
+    ensures { λ r. ⌜ Near (now (out .entry)) (now (out .exit)) at r ⌝ }
+    ensures value { λ r. ⌜ ((o : Option Yaml) → Finds (now (s .entry)) o found → Stored (now (out .entry)) (now (out .exit)) at (encode (maybe o trees.null (λ v. v))) r) ⌝ }
+{
+    let Found::At(p) = found else {
+        return put_null(out, at);
+    };
+    let head = header_at(s, p);
+    let Header::Item {
+        kind: _,
+        from: _,
+        to,
+    } = head
+    else {
+        return put_null(out, at);
+    };
+    put(out, at, &s[p..to])
+}

@@ -1,0 +1,29 @@
+-- The invariant keeps the end within the slice. Assumes nothing.
+use borrow.Author.Needs.{needs}
+use Prim.Native.Nat.{_≤_, _-_}
+use lib.ListN.{length}
+use Rattle.replay_scenario.proofs.print_numbers.Statement.{statement}
+use Rattle.replay_scenario.proofs.print_numbers.Tie as tie
+
+abbrev Inv-loop : tie.InvT-loop
+Inv-loop numbers i₀ t3 i-end i = i-end ≤ length numbers
+
+abbrev μ-loop : tie.MeasureT-loop
+μ-loop numbers i₀ t3 i-end i = i-end - i
+
+pub print-numbers-spec : {M : Type 1} → statement M
+print-numbers-spec =
+    tie.close
+    (tie.spec
+    Inv-loop
+    μ-loop
+    (λ c. search needs)
+    (λ c. search needs)
+    (λ c κs. search needs)
+    (λ c. search needs)
+    (λ c. search needs)
+    (λ c κs. search needs)
+    (λ c. search needs)
+    (λ c. search needs)
+    (λ c. search needs)
+    (λ c. search needs))

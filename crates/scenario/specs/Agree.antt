@@ -1,0 +1,71 @@
+-- What the writers of a record promise. Assumes nothing.
+use mathlib.Core.Path.{_≡_}
+use Prim.Native.Nat.{ℕ, _*_, _≤_}
+use mathlib.Core.List.{List}
+use lib.ListN.{length}
+use lib.Seq.{sets}
+use Rattle.refusal.specs.Base.{Answer, good, refused}
+use Rattle.refusal.specs.Told.{refusal}
+use Rattle.record.specs.Meaning.{Step, Meaning}
+use Rattle.item.specs.Encode.{encode}
+use Rattle.record.specs.Record.{stepsItem, recordOf}
+use Rattle.nodes.specs.Agree.{Stored}
+use Rattle.scenario.specs.declared.ScenarioAnswer.{ScenarioAnswer}
+use Rattle.scenario.specs.declared.ScenarioAnswer.the-variants.{Read, Refused as Unread}
+use Rattle.scenario.specs.declared.Steps.{Steps}
+use Rattle.scenario.specs.declared.Steps.the-variants.{Done, Refused}
+use Rattle.scenario.specs.Scenario.{linesFor, Reading}
+
+-- steps, stored as their item, and their lines, of `lines`
+pub record WroteSteps (answer : Answer (List Step)) (lines old new : List ℕ) (at : ℕ) (places filled : List ℕ) (end count : ℕ) : Type 0 where
+  pub read : List Step
+  pub is : answer ≡ good read
+  pub stored : Stored old new at (stepsItem read) end
+  pub lined : Stored places filled 0 (linesFor read lines) count
+  pub many : count ≡ length read
+
+abbrev pub AgreesSteps : Answer (List Step) → List ℕ → List ℕ → List ℕ → ℕ → List ℕ → List ℕ → Steps → Type 0
+AgreesSteps answer lines old new at places filled (Done end count) = WroteSteps answer lines old new at places filled end count
+AgreesSteps answer lines old new at places filled (Refused e) = answer ≡ refusal e
+
+-- a meaning, stored as `write` says, and its steps' lines
+pub record WroteMeaning (answer : Answer Meaning) (write : Meaning → List ℕ) (lines old new : List ℕ) (at : ℕ) (places filled : List ℕ) (end count : ℕ) : Type 0 where
+  pub read : Meaning
+  pub is : answer ≡ good read
+  pub stored : Stored old new at (write read) end
+  pub lined : Stored places filled 0 (linesFor (read .steps) lines) count
+  pub many : count ≡ length (read .steps)
+
+abbrev pub AgreesMeaning : Answer Meaning → (Meaning → List ℕ) → List ℕ → List ℕ → List ℕ → ℕ → List ℕ → List ℕ → Steps → Type 0
+AgreesMeaning answer write lines old new at places filled (Done end count) = WroteMeaning answer write lines old new at places filled end count
+AgreesMeaning answer write lines old new at places filled (Refused e) = answer ≡ refusal e
+
+-- what the code's answer says: the bytes of tree, record and lines, and the steps
+abbrev pub answerOf : ScenarioAnswer → Answer (ℕ × ℕ × ℕ × ℕ)
+answerOf (Read t r l n) = good (t, r, l, n)
+answerOf (Unread e) = refusal e
+
+-- what it should say; a line place has four bytes
+unfoldable pub told : Answer Reading → Answer (ℕ × ℕ × ℕ × ℕ)
+told (good r) = good (length (encode (r .tree)), length (recordOf (r .meaning)), 4 * length (r .lines), length (r .meaning .steps))
+told (refused k l s) = refused k l s
+
+-- a reading, and its three outputs written from the front
+pub record WroteScenario (answer : Answer Reading) (work tree room bytes places lines : List ℕ) (t r l n : ℕ) : Type 0 where
+  pub read : Reading
+  pub is : answer ≡ good read
+  pub tree-stored : tree ≡ sets work 0 (encode (read .tree))
+  pub tree-size : t ≡ length (encode (read .tree))
+  pub tree-fits : t ≤ length work
+  pub record-stored : bytes ≡ sets room 0 (recordOf (read .meaning))
+  pub record-size : r ≡ length (recordOf (read .meaning))
+  pub record-fits : r ≤ length room
+  pub lines-stored : lines ≡ sets places 0 (read .lines)
+  pub lines-many : n ≡ length (read .lines)
+  pub steps-many : n ≡ length (read .meaning .steps)
+  pub lines-fit : n ≤ length places
+  pub lines-size : l ≡ 4 * n
+
+abbrev pub AgreesScenario : Answer Reading → List ℕ → List ℕ → List ℕ → List ℕ → List ℕ → List ℕ → ScenarioAnswer → Type 0
+AgreesScenario answer work tree room bytes places lines (Read t r l n) = WroteScenario answer work tree room bytes places lines t r l n
+AgreesScenario answer work tree room bytes places lines (Unread e) = answer ≡ refusal e

@@ -1,0 +1,61 @@
+-- The scenario of a whole text: its tree, its meaning and the lines of its steps (`step_lines`), or its refusal. Assumes nothing.
+use Prim.Native.Nat.{ℕ, min}
+use mathlib.Core.List.{List, [], _∷_, _++_}
+use lib.Dec.{leb}
+use lib.ListN.{length, drop, replicate}
+use Rattle.refusal.specs.Base.{Answer, good, refused, _>>=_, _>>_, ensure}
+use Rattle.item.specs.Tree.{Yaml}
+use Rattle.item.specs.Encode.{encode}
+use Rattle.lines.specs.Lines.{Line, significantLines}
+use Rattle.tree.specs.Tree.{admitted, treeOf}
+use Rattle.record.specs.Meaning.{Step, Meaning}
+use Rattle.record.specs.Record.{recordOf}
+use Rattle.step_lines.specs.StepLines.{stepLines, headLine, tailLines}
+use Rattle.nodes.specs.Meanings.{meaningOf}
+
+-- a line for each step
+unfoldable pub linesFor : List Step → List ℕ → List ℕ
+linesFor [] lines = []
+linesFor (s ∷ ss) lines = headLine lines ∷ linesFor ss (tailLines lines)
+
+-- ---- the reading
+
+pub record Reading : Type 0 where
+  pub tree : Yaml
+  pub meaning : Meaning
+  pub lines : List ℕ
+
+-- the refusals of a tree, then 21 to 35
+unfoldable pub readingOf : ℕ → List ℕ → Answer Reading
+readingOf work text = do
+  admitted text
+  ls ← significantLines text
+  y ← treeOf (min work 1048576) ls
+  m ← meaningOf (stepLines ls) y
+  good (record { tree = y; meaning = m; lines = linesFor (m .steps) (stepLines ls) })
+
+-- 51, 52; of any lent output at most 1,048,576 bytes count, and a line place has four
+unfoldable pub scenario : ℕ → ℕ → ℕ → List ℕ → Answer Reading
+scenario work room places text = do
+  r ← readingOf work text
+  ensure (leb (length (r .meaning .steps)) (min places 262144)) 51 0 0
+  ensure (leb (length (recordOf (r .meaning))) (min room 1048576)) 52 0 0
+  good r
+
+-- what is left in a lent output: what is written of a reading, and behind it what was there; or zeros
+unfoldable pub output : (Reading → List ℕ) → Answer Reading → List ℕ → List ℕ
+output write (good r) old = write r ++ drop (length (write r)) old
+output write (refused k l s) old = replicate (length old) 0
+
+unfoldable pub treeBytes : Reading → List ℕ
+treeBytes r = encode (r .tree)
+
+unfoldable pub recordBytes : Reading → List ℕ
+recordBytes r = recordOf (r .meaning)
+
+unfoldable pub stepNumbers : Reading → List ℕ
+stepNumbers r = r .lines
+
+unfoldable pub Scenario-open : Unit {0}
+unfolding linesFor readingOf scenario output treeBytes recordBytes stepNumbers
+Scenario-open = tt

@@ -1,0 +1,2 @@
+pub mod Agree
+pub mod Laws
