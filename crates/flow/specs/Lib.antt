@@ -1,5 +1,6 @@
 pub mod Flow
 pub mod Agree
+pub mod Ends
 pub mod Examples
 pub mod Sums
 pub mod Progress

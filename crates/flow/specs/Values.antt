@@ -10,7 +10,7 @@ use lib.Dec.{eqb}
 use lib.ListN.{length, drop, getD, length-drop, drop-of-length-le}
 use lib.Seq.{sets, length-sets}
 use borrow.Author.Tests.{eq-eqb, ne-eqb, le-leb, lt-leb}
-use Rattle.refusal.specs.Base.{Answer, good, refused, _>>=_, _>>_, given, ensure, if_then_else_, ch, empty}
+use Rattle.refusal.specs.Base.{Answer, good, refused, _>>=_, given, if_then_else_, ch}
 use Rattle.refusal.specs.Told.{toldOf, refusal}
 use Rattle.refusal.specs.declared.Refusal.{Refusal}
 use Rattle.item.specs.Tree.{Yaml, null, bool, int, str, seq, dict}
@@ -24,8 +24,8 @@ use Rattle.scalar.specs.declared.Parsed.the-variants.{Done, Refused}
 use Rattle.scalar.specs.Scalars.{text, boolText, intText}
 use Rattle.scalar.specs.Read.{Got, charge, stop, scalar, skipSpaces, endsItem, endsColon, string, doubleQuoted, singleQuoted, plain}
 use Rattle.scalar.specs.Agree.{written, isKey, Wrote, Agrees}
-use Rattle.flow.specs.Flow.{behindColon, entryValue, flowSeq, flowMap, node, value, flow}
-use Rattle.flow.specs.Agree.{separates, skipSeparators, insideOf, sequenceOf, mappingOf, entryOf, WroteEntry, WroteWhole}
+use Rattle.flow.specs.Flow.{behindColon, entryValue, flowSeq, flowMap, node, value}
+use Rattle.flow.specs.Agree.{separates, skipSeparators, insideOf, sequenceOf, mappingOf, entryOf, WroteEntry}
 use Rattle.flow.specs.Progress.{Takes, value-takes, entryValue-le}
 use Rattle.flow.specs.Turns.{next, wrote-is, refused-is}
 
@@ -256,32 +256,6 @@ module _ (s : List ℕ) (i n levels : ℕ) (old : List ℕ) (at : ℕ) where
 
             pub entry-reads : i ≤ length s → j ≤ c → c < d → d ≤ length s → (m t : ℕ) (key′ : Bool) → r ≡ Done m t key′ → WroteEntry whole s old new i at m u t
             entry-reads wi jc cd dl m t key′ q = entry-done wi jc cd dl new m t key′ (wrote-is AsValue _ s mid new u r with-old m t key′ q)
-
--- ---- a part that is one value
-
-module _ (s : List ℕ) (n levels : ℕ) (role : Role) (old : List ℕ) (at i : ℕ) (sk : drop i s ≡ skipSpaces s) where
-  abbrev one : Answer (Yaml × ℕ)
-  one = flow (length old) n levels role at s
-
-  pub whole-refused : (k l q : ℕ) → value (length old) n levels false role at (drop i s) ≡ refused k l q → one ≡ refused k l q
-  unfolding flow _>>=_
-  whole-refused k l q e = rw (← sk, e)
-
-  module _ (new : List ℕ) (j u : ℕ) (key : Bool) (w : Wrote role (value (length old) n levels false role at (drop i s)) s old new at j u key) (c : ℕ) (sc : drop c s ≡ skipSpaces (drop j s)) where
-    pub whole-done : length s ≤ c → WroteWhole role one old new at u key
-    unfolding flow _>>=_ _>>_ ensure empty
-    whole-done h = record {
-      tree = w .tree;
-      is = rw (← sk, w .is, ← sc, drop-of-length-le s {i = c} h);
-      bytes = w .bytes;
-      grows = w .grows;
-      fits = w .fits;
-      keyed = w .keyed;
-    }
-
-    pub whole-more : c < length s → one ≡ refused 8 n 0
-    unfolding flow _>>=_ _>>_ ensure empty
-    whole-more h = rw (← sk, w .is, ← sc, next s c h)
 
 -- ---- what stands between values
 

@@ -14,10 +14,22 @@ ghost use Rattle.flow.specs.Flow as definition;
 ghost use Rattle.flow.specs.Flow.{entryValue};
 ghost use Rattle.flow.specs.Agree as agree;
 ghost use Rattle.flow.specs.Agree.{skipSeparators, sequenceOf, mappingOf, entryOf, AgreesEntry, AgreesWhole};
+ghost use Rattle.flow.specs.Ends.{Within, finishOf};
 use item::put_header;
 use refusal::Refusal;
 use scalar::Parsed;
 use scalar::Role;
+
+// The place in a line that a reader has come to: the line's bytes, how many of them are read, and how many more collections may be
+// opened there. It holds a reference, so it is a value that is copied and never lent: a cursor that has gone on is another one, and the
+// line outlives both (`'a`). The prover does not walk a function that takes, makes or keeps such a value; each of these has a proof by
+// hand, statement by statement (proofs/Cursor, proofs/flow). So they are few, have no branch and no loop, and hand slice and numbers on
+// to functions that it does walk. Other crates call `flow`, whose parameters are plain.
+pub struct Cursor<'a> {
+    pub line: &'a [u8],
+    pub at: usize,
+    pub levels: usize,
+}
 
 // What reading an entry answers: the next place of the line, the end of the key's item and of the value's.
 pub enum EntryRead {
@@ -256,12 +268,12 @@ fn value(
     }
 }
 
-// A part of a line that is one value.
-pub fn flow(s: &[u8], levels: usize, role: Role, line: u32, out: &mut [u8], at: usize) -> Whole
-    requires { ⌜ (length (now s) ≤ 65535) × (at ≤ length (now out)) × (length (now out) ≤ 1048576) ⌝ }
-    ensures { λ r. ⌜ AgreesWhole role (definition.flow (length (now (out .entry))) line levels role at (now (s .entry))) (now (out .entry)) (now (out .exit)) at r ⌝ }
+// What a part of a line comes to once its value is read: nothing but spaces may stand behind the value.
+fn finish(s: &[u8], p: Parsed, line: u32) -> Whole
+    requires { ⌜ Within (now s) p ⌝ }
+    ensures { λ r. ⌜ r ≡ finishOf (now (s .entry)) p line ⌝ }
 {
-    match value(s, skip_spaces(s, 0), levels, false, role, line, out, at) {
+    match p {
         Parsed::Refused(e) => Whole::Refused(e),
         Parsed::Done { next, used, key } => {
             if skip_spaces(s, next) == s.len() {
@@ -271,4 +283,55 @@ pub fn flow(s: &[u8], levels: usize, role: Role, line: u32, out: &mut [u8], at: 
             }
         }
     }
+}
+
+impl<'a> Cursor<'a> {
+    pub fn start(line: &'a [u8], levels: usize) -> Cursor<'a>
+        ensures { λ r. ⌜ (r .line ≡ line .entry) × (r .at ≡ 0) × (r .levels ≡ levels) ⌝ }
+    {
+        Cursor {
+            line,
+            at: 0,
+            levels,
+        }
+    }
+
+    pub fn skip_spaces(self) -> Cursor<'a>
+        requires { ⌜ self .at ≤ length (now (self .line)) ⌝ }
+        ensures { λ r. ⌜ (r .line ≡ self .entry .line) × (drop (r .at) (now (self .entry .line)) ≡ skipSpaces (drop (self .entry .at) (now (self .entry .line)))) × (r .at ≤ length (now (self .entry .line))) × (r .levels ≡ self .entry .levels) ⌝ }
+    {
+        Cursor {
+            line: self.line,
+            at: skip_spaces(self.line, self.at),
+            levels: self.levels,
+        }
+    }
+
+    // The value at the place. `number` is the line's number.
+    pub fn value(self, in_flow: bool, role: Role, number: u32, out: &mut [u8], at: usize) -> Parsed
+        requires { ⌜ (self .at ≤ length (now (self .line))) × (length (now (self .line)) ≤ 65535) × (at ≤ length (now out)) × (length (now out) ≤ 1048576) ⌝ }
+        ensures { λ r. ⌜ Agrees role (definition.value (length (now (out .entry))) number (self .entry .levels) in_flow role at (drop (self .entry .at) (now (self .entry .line)))) (now (self .entry .line)) (now (out .entry)) (now (out .exit)) at r ⌝ }
+    {
+        value(
+            self.line,
+            self.at,
+            self.levels,
+            in_flow,
+            role,
+            number,
+            out,
+            at,
+        )
+    }
+}
+
+// A part of a line that is one value.
+pub fn flow(s: &[u8], levels: usize, role: Role, line: u32, out: &mut [u8], at: usize) -> Whole
+    requires { ⌜ (length (now s) ≤ 65535) × (at ≤ length (now out)) × (length (now out) ≤ 1048576) ⌝ }
+    ensures { λ r. ⌜ AgreesWhole role (definition.flow (length (now (out .entry))) line levels role at (now (s .entry))) (now (out .entry)) (now (out .exit)) at r ⌝ }
+{
+    let p = Cursor::start(s, levels)
+        .skip_spaces()
+        .value(false, role, line, out, at);
+    finish(s, p, line)
 }
