@@ -7,7 +7,3 @@ pub mod Progress
 pub mod Steps
 pub mod Turns
 pub mod Values
-pub mod Grammar
-pub mod GrammarLaws
-pub mod PlainReads
-pub mod FlowReads

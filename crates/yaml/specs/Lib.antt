@@ -1,0 +1,10 @@
+pub mod Characters
+pub mod Represent
+pub mod Core
+pub mod Scalars
+pub mod Flow
+pub mod Rows
+pub mod Block
+pub mod Kept
+pub mod Reads
+pub mod Ordinary
