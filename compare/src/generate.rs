@@ -4,6 +4,7 @@ mod boundary;
 mod mutations;
 mod random;
 mod scenarios;
+mod section;
 // Here texts are written only.
 #[allow(dead_code)]
 mod writing;
@@ -20,7 +21,9 @@ usage: generate [--show] scenario SEED COUNT
        generate [--show] short CHARACTERS LENGTH [SEED COUNT]
        generate [--show] words WORD,WORD.. LENGTH [SEED COUNT]
        generate [--show] boundary
-       generate [--show] written < a text in each line, escaped";
+       generate [--show] written < a text in each line, escaped
+       generate section KIND [NUMBER NUMBER NUMBER]
+       generate end";
 
 struct Out {
     to: BufWriter<io::Stdout>,
@@ -76,8 +79,15 @@ fn generate(words: &[&str], out: &mut Out) -> Result<(), String> {
             let line = line.map_err(|error| error.to_string())?;
             out.put(&unescape(&line)?).map_err(|error| error.to_string())
         }),
+        ["section", kind] => begin(kind, [0; 3], out),
+        ["section", kind, a, b, c] => begin(kind, [number(a)?, number(b)?, number(c)?], out),
+        ["end"] => section::end(&mut out.to).map_err(|error| error.to_string()),
         _ => Err(format!("no kind `{}`", words.join(" "))),
     }
+}
+
+fn begin(kind: &str, numbers: [u32; 3], out: &mut Out) -> Result<(), String> {
+    section::begin(&mut out.to, kind, numbers).map_err(|error| error.to_string())
 }
 
 fn number<T: std::str::FromStr>(word: &str) -> Result<T, String> {

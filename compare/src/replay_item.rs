@@ -1,4 +1,16 @@
-//! Prints what `crates/replay_item` must print, by Rust's own integers and slices.
+//! Writes the sections of items into the stream of `crates/replay`, behind what the file named by
+//! the argument has, and prints what must be printed of them, by Rust's own integers and slices.
+
+#[path = "section.rs"]
+mod section;
+#[path = "writing.rs"]
+#[allow(dead_code)]
+mod writing;
+
+use std::fs::{File, OpenOptions};
+use std::io;
+
+use writing::write_text;
 
 fn item(kind: u16, content: &[u8]) -> Vec<u8> {
     let mut out = (content.len() as u32).to_le_bytes().to_vec();
@@ -20,7 +32,14 @@ fn among(items: &[(usize, Vec<u8>)]) {
     show(&out);
 }
 
-fn header(s: &[u8], at: usize) {
+/// A section of one text, whose number says a place or a length; `u32::MAX` is the largest of all.
+fn section(stream: &mut File, kind: &str, number: usize, text: &[u8]) -> io::Result<()> {
+    section::begin(stream, kind, [u32::try_from(number).unwrap_or(u32::MAX), 0, 0])?;
+    write_text(stream, text)?;
+    section::end(stream)
+}
+
+fn header(stream: &mut File, s: &[u8], at: usize) -> io::Result<()> {
     match s.get(at..).and_then(|rest| Some((rest.get(..4)?, rest.get(4..6)?))) {
         None => println!("cut"),
         Some((size, kind)) => {
@@ -32,13 +51,16 @@ fn header(s: &[u8], at: usize) {
             }
         }
     }
+    section(stream, "headers", at, s)
 }
 
-fn same(a: &[u8], b: &[u8]) {
+fn same(stream: &mut File, a: &[u8], b: &[u8]) -> io::Result<()> {
     println!("{}", if a == b { "same" } else { "different" });
+    section(stream, "same", a.len(), &[a, b].concat())
 }
 
-fn main() {
+/// These the program makes itself.
+fn items() {
     for n in [0, 0, -1, 255, -256, i64::MAX, -i64::MAX, i64::MIN] {
         among(&[(1, item(2, &n.to_le_bytes()))]);
     }
@@ -50,19 +72,29 @@ fn main() {
     }
     show(&[7, 0, 0, 7]);
     show(&[7, 7, 7, 7]);
-    header(b"", 0);
-    header(b"", usize::MAX);
-    header(b"\x01\0\0\0\x03", 0);
-    header(b"\0\0\0\0\x03\0", 0);
-    header(b"\0\0\0\0\x03\0", 1);
-    header(b"\x01\0\0\0\x03\0", 0);
-    header(b"\x01\0\0\0\x03\0a", 0);
-    header(b"\xff\xff\xff\xff\x05\0abc", 0);
-    header(b"xyz\x02\0\0\0\xff\xffabc", 3);
-    header(b"xyz\x02\0\0\0\xff\xffabc", 7);
-    same(b"", b"");
-    same(b"", b"a");
-    same(b"bell", b"bell");
-    same(b"bell", b"belt");
-    same(b"bell", b"bells");
+}
+
+const HEADERS: [(&[u8], usize); 10] = [
+    (b"", 0),
+    (b"", usize::MAX),
+    (b"\x01\0\0\0\x03", 0),
+    (b"\0\0\0\0\x03\0", 0),
+    (b"\0\0\0\0\x03\0", 1),
+    (b"\x01\0\0\0\x03\0", 0),
+    (b"\x01\0\0\0\x03\0a", 0),
+    (b"\xff\xff\xff\xff\x05\0abc", 0),
+    (b"xyz\x02\0\0\0\xff\xffabc", 3),
+    (b"xyz\x02\0\0\0\xff\xffabc", 7),
+];
+
+const PAIRS: [(&[u8], &[u8]); 5] =
+    [(b"", b""), (b"", b"a"), (b"bell", b"bell"), (b"bell", b"belt"), (b"bell", b"bells")];
+
+fn main() -> io::Result<()> {
+    let path = std::env::args().nth(1).expect("the file for the stream");
+    let mut stream = OpenOptions::new().append(true).open(path)?;
+    section::begin(&mut stream, "items", [0; 3])?;
+    items();
+    HEADERS.iter().try_for_each(|(s, at)| header(&mut stream, s, *at))?;
+    PAIRS.iter().try_for_each(|(a, b)| same(&mut stream, a, b))
 }

@@ -1,16 +1,22 @@
-//! Writes the cases of `crates/replay_record` and prints what it must print of them.
-//!
-//! Records come in as lines of hexadecimal text; the file named by the argument gets the stream: for
-//! each case the number of stored bytes and the number of bytes `a` to put in behind the first
-//! twelve, each in 4 bytes, little-endian, then the stored bytes.
+//! Writes the sections of records into the stream of `crates/replay`, behind what the file named by
+//! the argument has, and prints what must be printed of them. Records come in as lines of
+//! hexadecimal text.
 
 use std::collections::HashSet;
+use std::fs::OpenOptions;
 use std::io::{self, BufRead, Write};
 
 #[path = "random.rs"]
 #[allow(dead_code)]
 mod random;
+#[path = "section.rs"]
+mod section;
+#[path = "writing.rs"]
+#[allow(dead_code)]
+mod writing;
+
 use random::Random;
+use writing::write_text;
 
 const LONGEST: usize = 1_048_576;
 const STEP_FIELDS: [&str; 5] = ["name", "id", "timeout", "continue_on_error", "expect"];
@@ -373,29 +379,34 @@ struct Cases {
 }
 
 impl Cases {
-    fn filled(&mut self, stored: &[u8], fill: usize) {
-        let mut bytes = stored.to_vec();
-        bytes.splice(12.min(stored.len())..12.min(stored.len()), vec![b'a'; fill]);
-        for number in [stored.len(), fill] {
-            self.stream.extend((number as u32).to_le_bytes());
+    fn take(&mut self, bytes: &[u8]) {
+        write_text(&mut self.stream, bytes).unwrap();
+        writeln!(self.answers, "{}", answer(bytes)).unwrap();
+    }
+
+    /// A record whose name is so long that the whole has this many bytes. The zeros of the name are
+    /// put in by the program, behind the first twelve bytes.
+    fn long(&mut self, whole: usize) {
+        let mut bytes = written(&with_step("strike", null(), null()));
+        let zeros = whole - bytes.len();
+        for at in [0, 6] {
+            let length = u32::from_le_bytes(bytes[at..at + 4].try_into().unwrap()) + zeros as u32;
+            bytes[at..at + 4].copy_from_slice(&length.to_le_bytes());
         }
-        self.stream.extend(stored);
+        let numbers = [(12 + zeros) as u32, whole as u32, 0];
+        section::begin(&mut self.stream, "long_record", numbers).unwrap();
+        write_text(&mut self.stream, &bytes[..12]).unwrap();
+        write_text(&mut self.stream, &bytes[12..]).unwrap();
+        bytes.splice(12..12, vec![0; zeros]);
         writeln!(self.answers, "{}", answer(&bytes)).unwrap();
     }
 
-    fn take(&mut self, bytes: &[u8]) {
-        self.filled(bytes, 0);
+    fn begin(&mut self, kind: &str) {
+        section::begin(&mut self.stream, kind, [0; 3]).unwrap();
     }
 
-    /// A record whose name is so long that the whole has this many bytes.
-    fn long(&mut self, whole: usize) {
-        let mut stored = written(&with_step("strike", null(), null()));
-        let fill = whole - stored.len();
-        for at in [0, 6] {
-            let length = u32::from_le_bytes(stored[at..at + 4].try_into().unwrap()) + fill as u32;
-            stored[at..at + 4].copy_from_slice(&length.to_le_bytes());
-        }
-        self.filled(&stored, fill);
+    fn end(&mut self) {
+        section::end(&mut self.stream).unwrap();
     }
 
     /// Every byte changed to several values, every length, bytes before and behind.
@@ -422,7 +433,9 @@ impl Cases {
 fn main() {
     let path = std::env::args().nth(1).expect("the file for the stream");
     let mut cases = Cases { stream: Vec::new(), answers: b"tr.strike....\n".to_vec() };
+    cases.begin("parts");
     let mut random = Random::new(41);
+    cases.begin("records");
     cases.small(&written(&with_step("strike", map(&["a"]), null())));
     let mut ends = Vec::new();
     nests(&mut ends);
@@ -432,9 +445,11 @@ fn main() {
     for one in ends {
         cases.take(&written(&one));
     }
+    cases.end();
     for whole in [LONGEST - 1, LONGEST, LONGEST + 1] {
         cases.long(whole);
     }
+    cases.begin("records");
     for line in io::stdin().lock().lines() {
         let line = line.unwrap();
         let byte = |at| u8::from_str_radix(&line[at..at + 2], 16).expect("hexadecimal");
@@ -448,6 +463,7 @@ fn main() {
             cases.take(&written(&copy));
         }
     }
-    std::fs::write(path, cases.stream).unwrap();
+    cases.end();
+    OpenOptions::new().append(true).open(path).unwrap().write_all(&cases.stream).unwrap();
     io::stdout().write_all(&cases.answers).unwrap();
 }

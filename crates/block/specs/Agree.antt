@@ -1,11 +1,10 @@
 -- What the readers of blocks promise, and the words that their contracts need. Assumes nothing.
 use mathlib.Core.Path.{_≡_}
-use Prim.Native.Nat.{ℕ, _+_, _*_, _-_, _≤_, _<_}
+use Prim.Native.Nat.{ℕ, _+_, _-_, _≤_, _<_}
 use mathlib.Core.List.{List, [], _∷_, _++_}
-use mathlib.Core.Bool.{Bool, true, false, _&&_, _||_}
+use mathlib.Core.Bool.{Bool, false}
 use mathlib.Core.Option.{Option, none}
-use lib.Dec.{eqb}
-use lib.ListN.{length, drop, getD}
+use lib.ListN.{length, drop}
 use lib.Seq.{sets}
 use Rattle.refusal.specs.Base.{Answer, good, maybe, if_then_else_, bytes, same, empty}
 use Rattle.refusal.specs.Told.{refusal}
@@ -13,19 +12,23 @@ use Rattle.utf8.specs.Part.{part}
 use Rattle.item.specs.Tree.{Yaml}
 use Rattle.item.specs.Encode.{item, encode}
 use Rattle.lines.specs.Lines.{Line}
+use Rattle.lines.specs.Table.{indentAt, startAt, endAt}
+use Rattle.lines.specs.Dash.{dashed, isDash}
 use Rattle.scalar.specs.Key.{keyEnd}
 use Rattle.literal.specs.Literal.{Read}
+use Rattle.block.specs.declared.Opening.{Opening}
+use Rattle.block.specs.declared.Opening.the-variants.{Dash, Key, Flow}
 use Rattle.block.specs.declared.Behind.{Behind}
 use Rattle.block.specs.declared.Behind.the-variants.{Nothing, Literal, Stripped, Value}
 use Rattle.block.specs.declared.KeyRead.{KeyRead}
 use Rattle.block.specs.declared.KeyRead.the-variants.{Done, Refused}
 use Rattle.block.specs.declared.EntryRead.{EntryRead}
 use Rattle.block.specs.declared.EntryRead.the-variants.{Done as Took, Refused as Stopped}
-use Rattle.block.specs.Block.{dashed, keyAt}
+use Rattle.block.specs.Block.{keyAt}
 
--- whether a sequence or a mapping begins with this text
-unfoldable pub opens : List ℕ → Bool
-opens t = dashed t || maybe (keyEnd t) false (λ _. true)
+-- what a line with this text begins with
+unfoldable pub openingOf : List ℕ → Opening
+openingOf t = if dashed t then Dash else maybe (keyEnd t) Flow Key
 
 -- what the text behind a colon is
 unfoldable pub behindOf : List ℕ → Behind
@@ -43,22 +46,9 @@ keyHere indent (l ∷ ls) = keyAt indent l
 -- whether it goes on a sequence
 unfoldable pub dashHere : ℕ → List Line → Bool
 dashHere indent [] = false
-dashHere indent (l ∷ ls) = eqb (l .indent) indent && dashed (l .text)
+dashHere indent (l ∷ ls) = isDash indent l
 
--- the numbers of entry `i` of the table: its indentation, the start and the end of its text, its line's number
-abbrev pub indentAt : List ℕ → ℕ → ℕ
-indentAt table i = getD table (4 * i) 0
-
-abbrev pub startAt : List ℕ → ℕ → ℕ
-startAt table i = getD table (4 * i + 1) 0
-
-abbrev pub endAt : List ℕ → ℕ → ℕ
-endAt table i = getD table (4 * i + 2) 0
-
-abbrev pub numberAt : List ℕ → ℕ → ℕ
-numberAt table i = getD table (4 * i + 3) 0
-
--- the column of the place `from` of that line, and the line's text from there on
+-- the column of the place `from` of entry `i`, and the line's text from there on
 abbrev pub columnAt : List ℕ → ℕ → ℕ → ℕ
 columnAt table i from = indentAt table i + (from - startAt table i)
 

@@ -1,7 +1,7 @@
 -- Section 3 of document 01: blocks (`parse_block`, `parse_seq`, `parse_map`, `read_entry`). Assumes nothing.
 use Prim.Native.Nat.{ℕ, zero, suc, _+_, _-_}
 use mathlib.Core.List.{List, [], _∷_}
-use mathlib.Core.Bool.{Bool, true, false, _&&_, _||_, not}
+use mathlib.Core.Bool.{Bool, true, false, _||_, not}
 use mathlib.Core.Option.{Option, none, some}
 use lib.Dec.{ltb, eqb}
 use lib.ListN.{length, take, drop}
@@ -9,16 +9,13 @@ use Rattle.refusal.specs.Base.{Answer, good, _>>=_, _>>_, ensure, given, maybe,
 use Rattle.utf8.specs.White.{trim, trimStart}
 use Rattle.item.specs.Tree.{Yaml, null, seq, dict, Items, end, _◂_, Entries, done, pair, add}
 use Rattle.lines.specs.Lines.{Line}
+use Rattle.lines.specs.Dash.{dashed, isDash}
 use Rattle.scalar.specs.declared.Role.the-variants.{AsValue, AsKey}
 use Rattle.scalar.specs.Scalars.{text}
 use Rattle.scalar.specs.Key.{keyEnd}
 use Rattle.scalar.specs.Read.{charge}
 use Rattle.flow.specs.Flow.{flow, fresh}
 use Rattle.literal.specs.Literal.{Read, leaf, literal}
-
--- a line `-` or starting `- `
-unfoldable pub dashed : List ℕ → Bool
-dashed t = same t (bytes "-") || same (take 2 t) (bytes "- ")
 
 -- where the key of a line of this mapping ends: a line without a key end closes it, as does one at another indentation
 unfoldable pub keyAt : ℕ → Line → Option ℕ
@@ -84,7 +81,7 @@ module _ (cap : ℕ) where
     fresh cap (l .number) (e .0) got
     more (add got (e .0) (e .1)) sum′ rest
 
-  -- `turns` is at least the number of lines that are left: each turn takes one
+  -- `turns` is at least the number of lines that are left: each turn takes one, so that they never run out (Progress)
   unfoldable pub mapLines : Inside → ℕ → ℕ → Entries → ℕ → List Line → Read Entries
   mapLines inside indent zero got sum ls = good (got, sum, ls)
   mapLines inside indent (suc turns) got sum ls = mapTurn inside indent (λ g s r. mapLines inside indent turns g s r) got sum ls
@@ -120,7 +117,7 @@ module _ (cap : ℕ) where
   unfoldable pub seqTurn : Inside → ℕ → (Items → ℕ → List Line → Read Items) → Items → ℕ → List Line → Read Items
   seqTurn inside indent more got sum [] = good (got, sum, [])
   seqTurn inside indent more got sum (l ∷ ls) =
-      if not (eqb (l .indent) indent && dashed (l .text)) then good (got, sum, l ∷ ls)
+      if not (isDash indent l) then good (got, sum, l ∷ ls)
       else do
         (y, sum′, rest) ← itemBehind inside l sum (trimStart (drop 1 (l .text))) ls
         more (got ◂ y) sum′ rest

@@ -4,3 +4,4 @@ pub mod Parts
 pub mod Steps
 pub mod Turns
 pub mod Places
+pub mod Progress

@@ -3,28 +3,28 @@ use mathlib.Core.Path.{_≡_, refl, sym, ap, _∙_, subst}
 use Prim.Native.Nat.{ℕ, suc, _+_, _-_, _≤_, _<_}
 use native.Mathlib.Omega.{arith}
 use mathlib.Core.List.{List, [], _∷_}
-use mathlib.Core.Bool.{Bool, true, false, _&&_}
+use mathlib.Core.Bool.{Bool, true, false}
 use mathlib.Core.Option.{Option, none, some}
-use lib.Dec.{eqb}
 use lib.ListN.{length, drop, getD}
 use lib.Seq.{sets}
 use borrow.Author.Tests.{eq-eqb, ne-eqb, le-leb, lt-leb}
 use Rattle.refusal.specs.Base.{Answer, refused, _>>=_, _>>_, ensure, given, maybe, if_then_else_, ch, bytes, same, empty}
 use Rattle.refusal.specs.Told.{refusal}
-use Rattle.refusal.specs.Tools.{chosen}
+use Rattle.refusal.specs.Tools.{chosen, present}
 use Rattle.refusal.specs.declared.Refusal.{Refusal}
 use Rattle.utf8.specs.Part.{part}
-use Rattle.utf8.specs.White.{leading, trimStart, trimEnd, trim}
-use Rattle.utf8.specs.Laws.{part-all, part-drop, part-length, start-part, start-le, trim-part}
+use Rattle.utf8.specs.White.{leading, trimStart}
+use Rattle.utf8.specs.Laws.{part-drop, part-length, start-part, start-le}
 use Rattle.item.specs.Tree.{Yaml, null}
 use Rattle.item.specs.Encode.{encode}
 use Rattle.item.specs.Size.{item-length, encode-size}
 use Rattle.lines.specs.Lines.{Line}
-use Rattle.lines.specs.declared.Entry.{Entry}
-use Rattle.lines.specs.Table.{tableLines, Placed, IsEntry}
+use Rattle.lines.specs.Table.{lineAt, tableLines, indentAt}
+use Rattle.lines.specs.Dash.{dashed, isDash}
+use Rattle.lines.specs.Rows.{rows-end, rows-next}
 use Rattle.scalar.specs.declared.Role.{Role}
 use Rattle.scalar.specs.declared.Role.the-variants.{AsValue, AsKey}
-use Rattle.scalar.specs.declared.Found.the-variants.{At, Nothing as NotFound}
+use Rattle.item.specs.declared.Found.the-variants.{At, Nothing as NotFound}
 use Rattle.scalar.specs.Key.{quoteAfter, depthAfter, qualifies, keyEndFrom, keyEnd}
 use Rattle.scalar.specs.Read.{cost, charge}
 use Rattle.scalar.specs.Agree.{written}
@@ -36,10 +36,10 @@ use Rattle.flow.specs.Agree.{WroteWhole, AgreesWhole}
 use Rattle.flow.specs.Values.{Named, named, unnamed}
 use Rattle.literal.specs.Literal.{leaf}
 use Rattle.literal.specs.Agree.{WroteBlock}
-use Rattle.literal.specs.Rows.{rows-end, rows-next}
+use Rattle.block.specs.declared.Opening.the-variants.{Dash, Key, Flow}
 use Rattle.block.specs.declared.Behind.the-variants.{Nothing, Literal, Stripped, Value}
-use Rattle.block.specs.Block.{dashed, keyAt, startsComplex, lineValue, blockKey}
-use Rattle.block.specs.Agree.{opens, behindOf, keyHere, dashHere, WroteKey}
+use Rattle.block.specs.Block.{keyAt, startsComplex, lineValue, blockKey}
+use Rattle.block.specs.Agree.{openingOf, behindOf, keyHere, dashHere, WroteKey}
 
 -- ---- where a key ends
 
@@ -71,14 +71,8 @@ pub found-nothing : (o : Option ℕ) → NotFound ≡ foundOf o → o ≡ none
 found-nothing none e = refl
 found-nothing (some n) e = absurd (let z : _≡_ {A = ℕ} 0 1 = cc in omega arith)
 
--- ---- parts that are trimmed
+-- ---- what stands behind the dash of a line
 
--- a text trimmed at both ends, by the code's places
-pub trim-all : (s : List ℕ) (from to : ℕ) → from ≡ 0 + leading (part s 0 (length s)) → to ≡ from + length (trimEnd (part s from (length s))) → part s from to ≡ trim s
-trim-all s from to p q =
-    sym (trim-part s 0 (length s) from to (omega arith) (omega arith) p q) ∙ ap trim (part-all s)
-
--- what stands behind the dash of a line
 module _ (text : List ℕ) (start end from : ℕ) (h : start < end) (k : end ≤ length text) (e : from ≡ start + 1 + leading (part text (start + 1) end)) where
   pub dash-from-le : from ≤ end
   dash-from-le = omega (arith, start-le text (start + 1) end (omega arith) k)
@@ -95,44 +89,25 @@ module _ (text : List ℕ) (start end from : ℕ) (h : start < end) (k : end ≤
 
 -- ---- how a line begins
 
-pub dashed-empty : (t : List ℕ) → length t ≡ 0 → false ≡ dashed t
-unfolding dashed same bytes
-dashed-empty [] e = refl
-dashed-empty (b ∷ t) e = absurd (omega arith)
-
-pub dashed-other : (t : List ℕ) → 0 < length t → (getD t 0 0 ≡ ch "-" → ⊥) → false ≡ dashed t
-unfolding dashed same bytes
-dashed-other [] h n = absurd (omega arith)
-dashed-other (b ∷ t) h n = rw (ne-eqb b (ch "-") n)
-
-pub dashed-alone : (t : List ℕ) → length t ≡ 1 → getD t 0 0 ≡ ch "-" → true ≡ dashed t
-unfolding dashed same bytes
-dashed-alone [] h e = absurd (omega arith)
-dashed-alone (b ∷ []) h e = rw (eq-eqb b (ch "-") e)
-dashed-alone (b ∷ c ∷ t) h e = absurd (omega arith)
-
-pub dashed-more : (t : List ℕ) → 1 < length t → getD t 0 0 ≡ ch "-" → eqb (getD t 1 0) (ch " ") ≡ dashed t
-unfolding dashed same bytes
-dashed-more [] h e = absurd (omega arith)
-dashed-more (b ∷ []) h e = absurd (omega arith)
-dashed-more (b ∷ c ∷ t) h e = rw (eq-eqb b (ch "-") e) (go (eqb c (ch " ")))
-  where
-    go : (x : Bool) → x ≡ (x && true)
-    go true = refl
-    go false = refl
-
 module _ (t : List ℕ) where
-  pub opens-dashed : dashed t ≡ true → true ≡ opens t
-  unfolding opens
-  opens-dashed e = rw e
+  pub opens-dash : dashed t ≡ true → openingOf t ≡ Dash
+  unfolding openingOf if_then_else_
+  opens-dash e = rw e
 
-  pub opens-key : dashed t ≡ false → (k : ℕ) → keyEnd t ≡ some k → true ≡ opens t
-  unfolding opens maybe
+  pub opens-key : dashed t ≡ false → (k : ℕ) → keyEnd t ≡ some k → openingOf t ≡ Key k
+  unfolding openingOf if_then_else_ maybe
   opens-key e k f = rw (e, f)
 
-  pub opens-not : dashed t ≡ false → keyEnd t ≡ none → false ≡ opens t
-  unfolding opens maybe
-  opens-not e f = rw (e, f)
+  pub opens-flow : dashed t ≡ false → keyEnd t ≡ none → openingOf t ≡ Flow
+  unfolding openingOf if_then_else_ maybe
+  opens-flow e f = rw (e, f)
+
+  pub key-opened : (k : ℕ) → openingOf t ≡ Key k → keyEnd t ≡ some k
+  unfolding openingOf
+  key-opened k e =
+      chosen (dashed t) _ _ e (λ _ p. absurd (let z : _≡_ {A = ℕ} 0 1 = cc in omega arith))
+      λ _ p. present (keyEnd t) Flow Key p (λ _ q. absurd (let z : _≡_ {A = ℕ} 0 1 = cc in omega arith))
+      λ n f q. let z : n ≡ k = cc in f ∙ ap some z
 
 pub complex-question : (t : List ℕ) → 0 < length t → getD t 0 0 ≡ ch "?" → true ≡ startsComplex t
 unfolding startsComplex
@@ -273,43 +248,24 @@ module _ (t : List ℕ) (n levels : ℕ) (old : List ℕ) (at : ℕ) where
 
 -- ---- the lines of the table
 
-module _ (text table : List ℕ) (count i : ℕ) (entry : Entry) (is : IsEntry table i entry) where
-  module _ (p : Placed text table count) (h : i < count) where
-    pub entry-ordered : entry .start ≤ entry .end
-    entry-ordered = omega (arith, is .start′, is .end′, p i h .ordered)
-
-    pub entry-inside : entry .end ≤ length text
-    entry-inside = omega (arith, is .end′, p i h .inside)
-
-  module _ (indent : ℕ) (h : i < count) where
-    pub dash-elsewhere : (entry .indent ≡ indent → ⊥) → false ≡ dashHere indent (drop i (tableLines text table count))
-    unfolding dashHere
-    dash-elsewhere n =
-        sym (ap (dashHere indent) (rows-next text table count i h) ∙ rw (← is .indent′, ne-eqb (entry .indent) indent n))
-
-    pub dash-at : entry .indent ≡ indent → dashed (part text (entry .start) (entry .end)) ≡ dashHere indent (drop i (tableLines text table count))
-    unfolding dashHere
-    dash-at e =
-        sym (ap (dashHere indent) (rows-next text table count i h) ∙ rw (← is .indent′, ← is .start′, ← is .end′, eq-eqb (entry .indent) indent e))
-
-    pub key-elsewhere : (entry .indent ≡ indent → ⊥) → none ≡ keyHere indent (drop i (tableLines text table count))
-    unfolding keyHere keyAt if_then_else_
-    key-elsewhere n =
-        sym (ap (keyHere indent) (rows-next text table count i h) ∙ rw (← is .indent′, ne-eqb (entry .indent) indent n))
-
-    pub key-on : entry .indent ≡ indent → keyEnd (part text (entry .start) (entry .end)) ≡ keyHere indent (drop i (tableLines text table count))
-    unfolding keyHere keyAt if_then_else_
-    key-on e =
-        sym (ap (keyHere indent) (rows-next text table count i h) ∙ rw (← is .indent′, ← is .start′, ← is .end′, eq-eqb (entry .indent) indent e))
-
-module _ (text table : List ℕ) (count i indent : ℕ) (e : i ≡ count) where
-  no-line : drop i (tableLines text table count) ≡ []
-  no-line = ap (λ (n : ℕ). drop n (tableLines text table count)) e ∙ rows-end text table count
-
-  pub dash-end : false ≡ dashHere indent (drop i (tableLines text table count))
+module _ (text table : List ℕ) (count i indent : ℕ) where
+  pub dash-end : i ≡ count → false ≡ dashHere indent (drop i (tableLines text table count))
   unfolding dashHere
-  dash-end = sym (ap (dashHere indent) no-line)
+  dash-end e = sym (ap (dashHere indent) (rows-end text table count i e))
 
-  pub key-end-none : none ≡ keyHere indent (drop i (tableLines text table count))
+  pub key-end-none : i ≡ count → none ≡ keyHere indent (drop i (tableLines text table count))
   unfolding keyHere
-  key-end-none = sym (ap (keyHere indent) no-line)
+  key-end-none e = sym (ap (keyHere indent) (rows-end text table count i e))
+
+  module _ (h : i < count) where
+    pub dash-on : isDash indent (lineAt text table i) ≡ dashHere indent (drop i (tableLines text table count))
+    unfolding dashHere
+    dash-on = sym (ap (dashHere indent) (rows-next text table count i h))
+
+    pub key-elsewhere : (indentAt table i ≡ indent → ⊥) → none ≡ keyHere indent (drop i (tableLines text table count))
+    unfolding keyHere keyAt if_then_else_
+    key-elsewhere n = sym (ap (keyHere indent) (rows-next text table count i h) ∙ rw (ne-eqb (indentAt table i) indent n))
+
+    pub key-on : indentAt table i ≡ indent → keyEnd (lineAt text table i .text) ≡ keyHere indent (drop i (tableLines text table count))
+    unfolding keyHere keyAt if_then_else_
+    key-on e = sym (ap (keyHere indent) (rows-next text table count i h) ∙ rw (eq-eqb (indentAt table i) indent e))

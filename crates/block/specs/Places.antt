@@ -1,19 +1,20 @@
 -- The definitions at an entry of the table, by the numbers that the code reads there. Assumes nothing.
 use mathlib.Core.Path.{_≡_, refl, sym, ap, _∙_}
-use Prim.Native.Nat.{ℕ, suc, _+_, _*_, _-_, _≤_, _<_}
+use Prim.Native.Nat.{ℕ, suc, _+_, _-_, _≤_, _<_}
 use native.Mathlib.Numerals.{add-one}
 use native.Mathlib.Omega.{arith}
 use mathlib.Core.List.{List, [], _∷_}
-use mathlib.Core.Bool.{Bool, true, false, _&&_, false≢true}
+use mathlib.Core.Bool.{true, false, false≢true}
 use mathlib.Core.Option.{none, some}
 use lib.Dec.{eqb}
 use lib.ListN.{length, take, drop, length-drop}
 use lib.Seq.{sets, length-sets}
 use borrow.Author.Tests.{eqb-true}
-use Rattle.refusal.specs.Base.{Answer, refused, bytes, same}
+use Rattle.refusal.specs.Base.{Answer, refused, bytes}
 use Rattle.refusal.specs.Told.{toldOf, refusal}
 use Rattle.refusal.specs.Tools.{chosen}
 use Rattle.refusal.specs.declared.Refusal.{Refusal}
+use Rattle.utf8.specs.Ranges.{if-both}
 use Rattle.utf8.specs.Part.{part}
 use Rattle.utf8.specs.Laws.{part-all, part-length, part-take}
 use Rattle.utf8.specs.White.{leading, trim, trimStart}
@@ -23,18 +24,23 @@ use Rattle.item.specs.Size.{item-length}
 use Rattle.item.specs.Runs.{sets-append}
 use Rattle.lines.specs.declared.Entry.{Entry}
 use Rattle.lines.specs.Lines.{Line}
-use Rattle.lines.specs.Table.{lineAt, tableLines, IsEntry}
+use Rattle.lines.specs.Table.{lineAt, tableLines, startAt, endAt, numberAt, IsEntry}
+use Rattle.lines.specs.Dash.{dashed}
+use Rattle.lines.specs.Ready.{Ready}
+use Rattle.lines.specs.Laws.{dashed-filled}
+use Rattle.lines.specs.Rows.{rows-end, in-table, rows-next, entry-inside, entry-text}
 use Rattle.scalar.specs.Key.{keyEnd}
 use Rattle.literal.specs.Literal.{Read, leaf, literal}
-use Rattle.literal.specs.Agree.{Ready, WroteBlock}
-use Rattle.literal.specs.Rows.{rows-length, rows-end, rows-next}
+use Rattle.literal.specs.Agree.{WroteBlock}
+use Rattle.block.specs.declared.Opening.the-variants.{Dash, Key, Flow}
+use Rattle.block.specs.declared.Behind.{Behind}
 use Rattle.block.specs.declared.Behind.the-variants.{Nothing, Literal, Stripped, Value}
-use Rattle.block.specs.Block.{dashed, keyAt, lineValue, child, blockKey, valueBehind, entryAt, blockMap, inlineMap, itemBehind, blockSeq, within, block}
-use Rattle.block.specs.Agree.{opens, behindOf, keyHere, dashHere, startAt, endAt, numberAt, columnAt, textAt, Splits, WroteKey, WroteEntry}
-use Rattle.block.specs.Parts.{key-end-within, trim-start-part, trim-start-passed, dash-from-le}
-use Rattle.block.specs.Steps.{block-line, block-deep, block-sequence, block-mapping, child-deeper, child-none, value-nothing, value-literal, value-stripped, value-line, entry-unkeyed, entry-unvalued, entry-whole, item-child, item-line, item-deep, item-inline}
+use Rattle.block.specs.Block.{keyAt, lineValue, child, blockKey, valueBehind, entryAt, blockMap, inlineMap, itemBehind, blockSeq, within, block}
+use Rattle.block.specs.Agree.{openingOf, behindOf, keyHere, dashHere, columnAt, textAt, Splits, WroteKey, WroteEntry}
+use Rattle.block.specs.Parts.{key-end-within, key-opened, key-on, trim-start-part, trim-start-passed, dash-from-le}
+use Rattle.block.specs.Steps.{block-line, sequence-deep, block-sequence, mapping-deep, block-mapping, child-deeper, child-none, value-nothing, value-literal, value-stripped, value-line, entry-unkeyed, entry-unvalued, entry-whole, item-child, item-line, item-deep, item-inline}
 
--- a line that goes on a mapping or a sequence
+-- a line that goes on a mapping
 key-line : (indent : ℕ) (l : Line) (split : ℕ) → keyAt indent l ≡ some split → (l .indent ≡ indent) × (keyEnd (l .text) ≡ some split)
 unfolding keyAt
 key-line indent l split e =
@@ -42,57 +48,33 @@ key-line indent l split e =
     (λ q r. (eqb-true (l .indent) indent q, r))
     (λ q r. absurd (let z : _≡_ {A = ℕ} 0 1 = cc in omega arith))
 
-dash-line : (indent : ℕ) (l : Line) → eqb (l .indent) indent && dashed (l .text) ≡ true → (l .indent ≡ indent) × (dashed (l .text) ≡ true)
-dash-line indent l e = (eqb-true (l .indent) indent (and-left (eqb (l .indent) indent) (dashed (l .text)) e), and-right (eqb (l .indent) indent) (dashed (l .text)) e)
-  where
-    and-left : (a b : Bool) → a && b ≡ true → a ≡ true
-    and-left true b p = refl
-    and-left false b p = p
-
-    and-right : (a b : Bool) → a && b ≡ true → b ≡ true
-    and-right true b p = p
-    and-right false b p = absurd (false≢true p)
-
-dashed-filled : (t : List ℕ) → dashed t ≡ true → 0 < length t
-unfolding dashed same bytes
-dashed-filled [] e = absurd (false≢true e)
-dashed-filled (b ∷ t) e = omega arith
-
 module _ (text table : List ℕ) (count : ℕ) where
   abbrev lines : List Line
   lines = tableLines text table count
 
-  pub all-read : (i : ℕ) → i ≡ count → drop i lines ≡ []
-  all-read i e = ap (λ (k : ℕ). drop k lines) e ∙ rows-end text table count
-
-  pub in-lines : (i : ℕ) → i ≤ count → i ≤ length lines
-  in-lines i h = omega (arith, rows-length text table count)
-
-  pub in-table : (i : ℕ) → i ≤ length lines → i ≤ count
-  in-table i h = omega (arith, rows-length text table count)
-
   -- a line is there where one goes on
   pub key-there : (i indent split : ℕ) → i ≤ length lines → keyHere indent (drop i lines) ≡ some split → i < count
   unfolding keyHere
-  key-there i indent split h k = omega (arith, in-table i h, other)
+  key-there i indent split h k = omega (arith, in-table text table count i h, other)
     where
       other : i ≡ count → ⊥
       other e =
-          let q : none ≡ some split = ap (keyHere indent) (sym (all-read i e)) ∙ k in
+          let q : none ≡ some split = ap (keyHere indent) (sym (rows-end text table count i e)) ∙ k in
           let z : _≡_ {A = ℕ} 0 1 = cc in
           omega arith
 
   pub dash-there : (i indent : ℕ) → i ≤ length lines → dashHere indent (drop i lines) ≡ true → i < count
   unfolding dashHere
-  dash-there i indent h k = omega (arith, in-table i h, other)
+  dash-there i indent h k = omega (arith, in-table text table count i h, other)
     where
       other : i ≡ count → ⊥
-      other e = false≢true (ap (dashHere indent) (sym (all-read i e)) ∙ k)
+      other e = false≢true (ap (dashHere indent) (sym (rows-end text table count i e)) ∙ k)
 
   pub dash-text : Ready text table count → (i indent : ℕ) → i < count → dashHere indent (drop i lines) ≡ true → startAt table i < endAt table i
   unfolding dashHere
   dash-text r i indent h k =
-      let d : 0 < length (lineAt text table i .text) = dashed-filled (lineAt text table i .text) (dash-line indent (lineAt text table i) (ap (dashHere indent) (sym (rows-next text table count i h)) ∙ k) .1) in
+      let l = lineAt text table i in
+      let d : 0 < length (l .text) = dashed-filled (l .text) (if-both (eqb (l .indent) indent) (dashed (l .text)) (ap (dashHere indent) (sym (rows-next text table count i h)) ∙ k) .1) in
       omega (arith, part-length text (startAt table i) (endAt table i) (r .placed i h .ordered) (r .placed i h .inside))
 
   module _ (i : ℕ) (h : i < count) (x : Entry) (is : IsEntry table i x) where
@@ -124,24 +106,16 @@ module _ (text table : List ℕ) (count : ℕ) where
     abbrev rest : List Line
     rest = drop (i + 1) lines
 
-    pub here : drop i lines ≡ l ∷ rest
-    here = rows-next text table count i h
-
-    pub ordered : Ready text table count → x .start ≤ x .end
-    ordered r = omega (arith, r .placed i h .ordered, is .start′, is .end′)
-
-    pub inside : Ready text table count → x .end ≤ length text
-    inside r = omega (arith, r .placed i h .inside, is .end′)
-
     -- the text from a place of the line on
-    pub from-is : (from : ℕ) → part text from (x .end) ≡ textAt text table i from
+    from-is : (from : ℕ) → part text from (x .end) ≡ textAt text table i from
     from-is from = ap (part text from) (is .end′)
-
-    pub text-is : part text (x .start) (x .end) ≡ l .text
-    text-is = from-is (x .start) ∙ ap (λ (k : ℕ). textAt text table i k) (is .start′)
 
     pub column-is : (from : ℕ) → x .indent + (from - x .start) ≡ columnAt table i from
     column-is from = ap (λ (k : ℕ). k + (from - x .start)) (is .indent′) ∙ ap (λ (k : ℕ). l .indent + (from - k)) (is .start′)
+
+    -- the key that a line begins with goes on a mapping at its indentation
+    pub key-first : (t : List ℕ) → t ≡ l .text → (split : ℕ) → Key split ≡ openingOf t → keyHere (x .indent) (drop i lines) ≡ some split
+    key-first t e split o = sym (key-on text table count i (x .indent) h (sym (is .indent′))) ∙ ap keyEnd (sym e) ∙ key-opened t split (sym o)
 
     module _ (cap levels sum : ℕ) where
       abbrev blocked : Read Yaml
@@ -151,72 +125,73 @@ module _ (text table : List ℕ) (count : ℕ) where
       valued : (t : List ℕ) → lineValue cap levels (numberAt table i) sum t rest ≡ lineValue cap levels (x .number) sum t rest
       valued t = ap (λ (n : ℕ). lineValue cap levels n sum t rest) (sym (is .number′))
 
-      pub block-line-at : opens (part text (x .start) (x .end)) ≡ false → blocked ≡ lineValue cap levels (x .number) sum (part text (x .start) (x .end)) rest
-      block-line-at o =
-          block-line cap levels sum (drop i lines) l rest here (ap opens (sym text-is) ∙ o)
-          ∙ valued (l .text) ∙ ap (λ (t : List ℕ). lineValue cap levels (x .number) sum t rest) (sym text-is)
+      -- and 20
+      refuse : _≡_ {A = Read Yaml} (refused 20 (numberAt table i) 0) (refused 20 (x .number) 0)
+      refuse = ap (λ (n : ℕ). refused 20 n 0) (sym (is .number′))
 
-      pub block-deep-at : opens (part text (x .start) (x .end)) ≡ true → levels ≡ 0 → blocked ≡ refused 20 (x .number) 0
-      block-deep-at o z =
-          block-deep cap levels sum (drop i lines) l rest here (ap opens (sym text-is) ∙ o) z ∙ ap (λ (n : ℕ). refused 20 n 0) (sym (is .number′))
+      -- by what the line begins with
+      module _ (t : List ℕ) (e : t ≡ l .text) where
+        pub block-line-at : Flow ≡ openingOf t → blocked ≡ lineValue cap levels (x .number) sum t rest
+        block-line-at o =
+            block-line cap levels sum (drop i lines) l rest (rows-next text table count i h) (ap openingOf (sym e) ∙ sym o) ∙ valued (l .text) ∙ ap (λ (b : List ℕ). lineValue cap levels (x .number) sum b rest) (sym e)
 
-      pub block-sequence-at : dashed (part text (x .start) (x .end)) ≡ true → (levels ≡ 0 → ⊥) → blocked ≡ blockSeq cap (within cap (levels - 1)) (x .indent) sum (drop i lines)
-      block-sequence-at d z =
-          block-sequence cap levels sum (drop i lines) l rest here (ap dashed (sym text-is) ∙ d) z
-          ∙ ap (λ (k : ℕ). blockSeq cap (within cap (levels - 1)) k sum (drop i lines)) (sym (is .indent′))
+        module _ (o : Dash ≡ openingOf t) where
+          pub sequence-deep-at : levels ≡ 0 → blocked ≡ refused 20 (x .number) 0
+          sequence-deep-at z = sequence-deep cap levels sum (drop i lines) l rest (rows-next text table count i h) (ap openingOf (sym e) ∙ sym o) z ∙ refuse
 
-      pub block-mapping-at : opens (part text (x .start) (x .end)) ≡ true → dashed (part text (x .start) (x .end)) ≡ false → (levels ≡ 0 → ⊥)
-          → blocked ≡ blockMap cap (within cap (levels - 1)) (x .indent) sum (drop i lines)
-      block-mapping-at o d z =
-          block-mapping cap levels sum (drop i lines) l rest here (ap opens (sym text-is) ∙ o) (ap dashed (sym text-is) ∙ d) z
-          ∙ ap (λ (k : ℕ). blockMap cap (within cap (levels - 1)) k sum (drop i lines)) (sym (is .indent′))
+          pub block-sequence-at : (levels ≡ 0 → ⊥) → blocked ≡ blockSeq cap (within cap (levels - 1)) (x .indent) sum (drop i lines)
+          block-sequence-at z =
+              block-sequence cap levels sum (drop i lines) l rest (rows-next text table count i h) (ap openingOf (sym e) ∙ sym o) z
+              ∙ ap (λ (k : ℕ). blockSeq cap (within cap (levels - 1)) k sum (drop i lines)) (sym (is .indent′))
+
+        module _ (split : ℕ) (o : Key split ≡ openingOf t) where
+          pub mapping-deep-at : levels ≡ 0 → blocked ≡ refused 20 (x .number) 0
+          mapping-deep-at z = mapping-deep cap levels sum (drop i lines) l rest (rows-next text table count i h) split (ap openingOf (sym e) ∙ sym o) z ∙ refuse
+
+          pub block-mapping-at : (levels ≡ 0 → ⊥) → blocked ≡ blockMap cap (within cap (levels - 1)) (x .indent) sum (drop i lines)
+          block-mapping-at z =
+              block-mapping cap levels sum (drop i lines) l rest (rows-next text table count i h) split (ap openingOf (sym e) ∙ sym o) z
+              ∙ ap (λ (k : ℕ). blockMap cap (within cap (levels - 1)) k sum (drop i lines)) (sym (is .indent′))
 
       pub child-deeper-at : (indent : ℕ) → indent < x .indent → child cap (within cap levels) indent sum (drop i lines) ≡ blocked
-      child-deeper-at indent k = child-deeper cap levels indent sum (drop i lines) l rest here (omega (arith, is .indent′))
+      child-deeper-at indent k = child-deeper cap levels indent sum (drop i lines) l rest (rows-next text table count i h) (omega (arith, is .indent′))
 
       pub child-none-at : (indent : ℕ) → x .indent ≤ indent → child cap (within cap levels) indent sum (drop i lines) ≡ leaf cap sum null (drop i lines)
-      child-none-at indent k = child-none cap levels indent sum (drop i lines) l rest here (omega (arith, is .indent′))
+      child-none-at indent k = child-none cap levels indent sum (drop i lines) l rest (rows-next text table count i h) (omega (arith, is .indent′))
 
       -- ---- behind a colon
 
-      module _ (from split : ℕ) where
-        abbrev t : List ℕ
-        t = part text from (x .end)
-
+      module _ (from split : ℕ) (b : List ℕ) (q : b ≡ trim (part (part text from (x .end)) (split + 1) (length (part text from (x .end))))) where
         abbrev behind : List ℕ
-        behind = part t (split + 1) (length t)
+        behind = trim (drop (suc split) (textAt text table i from))
 
-        behind-is : behind ≡ drop (suc split) (textAt text table i from)
+        behind-is : b ≡ behind
         behind-is =
+            let t = part text from (x .end) in
             let n : length t - (split + 1) ≡ length (drop (split + 1) t) - 0 = omega (arith, length-drop (split + 1) t) in
-            ap (λ (k : ℕ). take k (drop (split + 1) t)) n ∙ part-all (drop (split + 1) t) ∙ rw (add-one split, from-is from)
+            q ∙ ap trim (ap (λ (k : ℕ). take k (drop (split + 1) t)) n ∙ part-all (drop (split + 1) t) ∙ rw (add-one split, from-is from))
 
         abbrev stands : Read Yaml
-        stands = valueBehind cap (within cap levels) (numberAt table i) (columnAt table i from) sum (trim (drop (suc split) (textAt text table i from))) rest
+        stands = valueBehind cap (within cap levels) (numberAt table i) (columnAt table i from) sum behind rest
 
-        kind-is : behindOf (trim behind) ≡ behindOf (trim (drop (suc split) (textAt text table i from)))
-        kind-is = ap (λ (b : List ℕ). behindOf (trim b)) behind-is
+        told : {k : Behind} → k ≡ behindOf b → behindOf behind ≡ k
+        told e = sym (e ∙ ap behindOf behind-is)
 
-        pub value-nothing-at : Nothing ≡ behindOf (trim behind) → stands ≡ child cap (within cap levels) (x .indent + (from - x .start)) sum rest
+        pub value-nothing-at : Nothing ≡ behindOf b → stands ≡ child cap (within cap levels) (x .indent + (from - x .start)) sum rest
         value-nothing-at e =
-            value-nothing cap levels (numberAt table i) (columnAt table i from) sum (trim (drop (suc split) (textAt text table i from))) rest (sym kind-is ∙ sym e)
-            ∙ ap (λ (k : ℕ). child cap (within cap levels) k sum rest) (sym (column-is from))
+            value-nothing cap levels (numberAt table i) (columnAt table i from) sum behind rest (told e) ∙ ap (λ (k : ℕ). child cap (within cap levels) k sum rest) (sym (column-is from))
 
-        pub value-literal-at : Literal ≡ behindOf (trim behind) → stands ≡ literal cap false (x .indent + (from - x .start)) sum rest
+        pub value-literal-at : Literal ≡ behindOf b → stands ≡ literal cap false (x .indent + (from - x .start)) sum rest
         value-literal-at e =
-            value-literal cap levels (numberAt table i) (columnAt table i from) sum (trim (drop (suc split) (textAt text table i from))) rest (sym kind-is ∙ sym e)
-            ∙ ap (λ (k : ℕ). literal cap false k sum rest) (sym (column-is from))
+            value-literal cap levels (numberAt table i) (columnAt table i from) sum behind rest (told e) ∙ ap (λ (k : ℕ). literal cap false k sum rest) (sym (column-is from))
 
-        pub value-stripped-at : Stripped ≡ behindOf (trim behind) → stands ≡ literal cap true (x .indent + (from - x .start)) sum rest
+        pub value-stripped-at : Stripped ≡ behindOf b → stands ≡ literal cap true (x .indent + (from - x .start)) sum rest
         value-stripped-at e =
-            value-stripped cap levels (numberAt table i) (columnAt table i from) sum (trim (drop (suc split) (textAt text table i from))) rest (sym kind-is ∙ sym e)
-            ∙ ap (λ (k : ℕ). literal cap true k sum rest) (sym (column-is from))
+            value-stripped cap levels (numberAt table i) (columnAt table i from) sum behind rest (told e) ∙ ap (λ (k : ℕ). literal cap true k sum rest) (sym (column-is from))
 
-        pub value-line-at : Value ≡ behindOf (trim behind) → stands ≡ lineValue cap levels (x .number) sum (trim behind) rest
+        pub value-line-at : Value ≡ behindOf b → stands ≡ lineValue cap levels (x .number) sum b rest
         value-line-at e =
-            value-line cap levels (numberAt table i) (columnAt table i from) sum (trim (drop (suc split) (textAt text table i from))) rest (sym kind-is ∙ sym e)
-            ∙ valued (trim (drop (suc split) (textAt text table i from)))
-            ∙ ap (λ (b : List ℕ). lineValue cap levels (x .number) sum (trim b) rest) (sym behind-is)
+            value-line cap levels (numberAt table i) (columnAt table i from) sum behind rest (told e) ∙ valued behind ∙ ap (λ (t : List ℕ). lineValue cap levels (x .number) sum t rest) (sym behind-is)
 
       -- ---- an entry
 
@@ -274,16 +249,16 @@ module _ (text table : List ℕ) (count : ℕ) where
         item-low = omega arith
 
         pub item-high : from ≤ x .end
-        item-high = dash-from-le text (x .start) (x .end) from filled (inside r) e
+        item-high = dash-from-le text (x .start) (x .end) from filled (entry-inside text table count i h x is r) e
 
         behind-dash : part text from (x .end) ≡ trimStart (drop 1 (textAt text table i (startAt table i)))
-        behind-dash = trim-start-part text (x .start) (x .end) from filled (inside r) e ∙ ap (λ (b : List ℕ). trimStart (drop 1 b)) text-is
+        behind-dash = trim-start-part text (x .start) (x .end) from filled (entry-inside text table count i h x is r) e ∙ ap (λ (b : List ℕ). trimStart (drop 1 b)) (entry-text text table count i h x is)
 
         it-is : item ≡ itemBehind cap (within cap levels) l sum (part text from (x .end)) rest
         it-is = ap (λ (b : List ℕ). itemBehind cap (within cap levels) l sum b rest) (sym behind-dash)
 
         long : length (part text from (x .end)) ≡ x .end - from
-        long = part-length text from (x .end) item-high (inside r)
+        long = part-length text from (x .end) item-high (entry-inside text table count i h x is r)
 
         pub item-child-at : from ≡ x .end → item ≡ child cap (within cap levels) (x .indent) sum rest
         item-child-at z =
@@ -308,7 +283,7 @@ module _ (text table : List ℕ) (count : ℕ) where
 
             pub item-deep-at : levels ≡ 0 → item ≡ refused 20 (x .number) 0
             item-deep-at z =
-                it-is ∙ item-deep cap levels l sum (part text from (x .end)) rest more split k z ∙ ap (λ (m : ℕ). refused 20 m 0) (sym (is .number′))
+                it-is ∙ item-deep cap levels l sum (part text from (x .end)) rest more split k z ∙ refuse
 
             pub item-inline-at : (levels ≡ 0 → ⊥)
                 → item ≡ inlineMap cap (within cap (levels - 1)) (numberAt table i) (columnAt table i from) (textAt text table i from) split sum rest
@@ -319,5 +294,5 @@ module _ (text table : List ℕ) (count : ℕ) where
               where
                 column : length (l .text) - length (part text from (x .end)) ≡ from - startAt table i
                 column =
-                    ap (λ (b : List ℕ). length b - length (part text from (x .end))) (sym text-is)
-                    ∙ trim-start-passed text (x .start) (x .end) from filled (inside r) e ∙ ap (λ (m : ℕ). from - m) (is .start′)
+                    ap (λ (b : List ℕ). length b - length (part text from (x .end))) (sym (entry-text text table count i h x is))
+                    ∙ trim-start-passed text (x .start) (x .end) from filled (entry-inside text table count i h x is r) e ∙ ap (λ (m : ℕ). from - m) (is .start′)

@@ -1,34 +1,35 @@
 -- What each definition comes to, by the lines at its place. Assumes nothing.
-use mathlib.Core.Path.{_≡_, refl, sym, ap, _∙_, subst}
+use mathlib.Core.Path.{_≡_, refl, ap, _∙_, subst}
 use Prim.Native.Nat.{ℕ, zero, suc, _+_, _-_, _≤_, _<_}
 use native.Mathlib.Omega.{arith}
 use mathlib.Core.List.{List, [], _∷_}
-use mathlib.Core.Bool.{Bool, true, false, _||_, false≢true}
+use mathlib.Core.Bool.{Bool, true, false}
 use mathlib.Core.Option.{Option, none, some}
-use lib.Dec.{ltb, leb, eqb}
 use lib.ListN.{length, take, drop}
 use borrow.Author.Tests.{lt-ltb, le-ltb, le-leb, lt-leb}
-use Rattle.refusal.specs.Base.{Answer, good, refused, _>>=_, _>>_, ensure, given, maybe, if_then_else_, bytes, same, empty}
+use Rattle.refusal.specs.Base.{Answer, good, refused, _>>=_, _>>_, given, maybe, if_then_else_, bytes, same, empty}
 use Rattle.refusal.specs.Told.{refusal}
 use Rattle.refusal.specs.declared.Refusal.{Refusal}
 use Rattle.utf8.specs.White.{trim}
-use Rattle.item.specs.Tree.{Shape, Node, Yaml, null, dict, Entries, done, pair, hasKey}
+use Rattle.item.specs.Tree.{Shape, Node, Yaml, null}
 use Rattle.lines.specs.Lines.{Line}
+use Rattle.lines.specs.Dash.{dashed}
 use Rattle.scalar.specs.Key.{keyEnd}
 use Rattle.scalar.specs.Read.{charge}
-use Rattle.flow.specs.Flow.{fresh}
 use Rattle.literal.specs.declared.BlockRead.{BlockRead}
 use Rattle.literal.specs.declared.BlockRead.the-variants.{Done, Refused}
 use Rattle.literal.specs.Literal.{Read, leaf, literal}
 use Rattle.literal.specs.Agree.{WroteBlock, AgreesBlock}
+use Rattle.block.specs.declared.Opening.{Opening}
+use Rattle.block.specs.declared.Opening.the-variants.{Dash, Key, Flow}
 use Rattle.block.specs.declared.Behind.{Behind}
 use Rattle.block.specs.declared.Behind.the-variants.{Nothing, Literal, Stripped, Value}
 use Rattle.block.specs.declared.KeyRead.{KeyRead}
 use Rattle.block.specs.declared.KeyRead.the-variants.{Done as Keyed, Refused as Unkeyed}
 use Rattle.block.specs.declared.EntryRead.{EntryRead}
 use Rattle.block.specs.declared.EntryRead.the-variants.{Done as Took, Refused as Stopped}
-use Rattle.block.specs.Block.{Inside, dashed, lineValue, child, blockKey, valueBehind, entryAt, entriesOf, blockMap, inlineMap, itemBehind, itemsOf, blockSeq, blockOf, inlineOf, insideOf, within, block}
-use Rattle.block.specs.Agree.{opens, behindOf, WroteKey, AgreesKey, WroteEntry, AgreesEntry}
+use Rattle.block.specs.Block.{Inside, lineValue, child, blockKey, valueBehind, entryAt, blockMap, inlineMap, itemBehind, blockSeq, blockOf, inlineOf, insideOf, within, block}
+use Rattle.block.specs.Agree.{openingOf, behindOf, WroteKey, AgreesKey, WroteEntry, AgreesEntry}
 
 -- an answer that is equal to another, from an earlier line on
 pub agrees-block : {s : Shape} (x y : Read (Node s)) (ls : List Line) (j i : ℕ) (old new : List ℕ) (at : ℕ) (r : BlockRead) → x ≡ y → j ≤ i
@@ -88,28 +89,6 @@ inside-some cap (suc n) e = let k : suc n - 1 ≡ n = omega arith in rw k
 
 -- ---- a block
 
-opens-not : (t : List ℕ) → opens t ≡ false → (dashed t ≡ false) × (keyEnd t ≡ none)
-unfolding opens maybe
-opens-not t = go (dashed t) (keyEnd t)
-  where
-    go : (d : Bool) (k : Option ℕ) → d || maybe k false (λ _. true) ≡ false → (d ≡ false) × (k ≡ none)
-    go true k e = absurd (false≢true (sym e))
-    go false none e = (refl, refl)
-    go false (some n) e = absurd (false≢true (sym e))
-
-record Split (t : List ℕ) : Type 0 where
-  place : ℕ
-  is : keyEnd t ≡ some place
-
-opens-split : (t : List ℕ) → opens t ≡ true → dashed t ≡ false → Split t
-unfolding opens maybe
-opens-split t e d = go (dashed t) (keyEnd t) refl d e
-  where
-    go : (b : Bool) (k : Option ℕ) → keyEnd t ≡ k → b ≡ false → b || maybe k false (λ _. true) ≡ true → Split t
-    go true k p q r = absurd (false≢true (sym q))
-    go false none p q r = absurd (false≢true r)
-    go false (some n) p q r = record { place = n; is = p }
-
 module _ (cap levels sum : ℕ) where
   block-is : (ls : List Line) → block cap levels sum ls ≡ blockOf cap levels (insideAt cap levels) sum ls
   unfolding block insideOf
@@ -119,26 +98,47 @@ module _ (cap levels sum : ℕ) where
   unfolding blockOf
   block-end ls e = rw e (block-is [])
 
-  module _ (ls : List Line) (l : Line) (rest : List Line) (e : ls ≡ l ∷ rest) where
-    pub block-line : opens (l .text) ≡ false → block cap levels sum ls ≡ lineValue cap levels (l .number) sum (l .text) rest
-    unfolding blockOf if_then_else_ maybe
-    block-line o = let p = opens-not (l .text) o in rw e (block-is (l ∷ rest) ∙ rw (p .0, p .1))
+  module _ (l : Line) (rest : List Line) where
+    abbrev opened : (Inside → Read Yaml) → Read Yaml
+    opened f = given (insideAt cap levels) 20 (l .number) 0 >>= f
 
-    pub block-deep : opens (l .text) ≡ true → levels ≡ 0 → block cap levels sum ls ≡ refused 20 (l .number) 0
-    unfolding blockOf if_then_else_ maybe given _>>=_
-    block-deep o z = rw e (block-is (l ∷ rest) ∙ go (dashed (l .text)) refl)
+    byOpening : Opening → Read Yaml
+    byOpening Dash = opened λ i. blockSeq cap i (l .indent) sum (l ∷ rest)
+    byOpening (Key split) = opened λ i. blockMap cap i (l .indent) sum (l ∷ rest)
+    byOpening Flow = lineValue cap levels (l .number) sum (l .text) rest
+
+    by-opening : block cap levels sum (l ∷ rest) ≡ byOpening (openingOf (l .text))
+    unfolding blockOf openingOf byOpening if_then_else_ maybe
+    by-opening = block-is (l ∷ rest) ∙ go (dashed (l .text)) (keyEnd (l .text))
       where
-        go : (d : Bool) → dashed (l .text) ≡ d → blockOf cap levels (insideAt cap levels) sum (l ∷ rest) ≡ refused 20 (l .number) 0
-        go true d = rw (d, inside-none cap levels z)
-        go false d = rw (d, opens-split (l .text) o d .is, inside-none cap levels z)
+        go : (d : Bool) (k : Option ℕ)
+            → (if d then byOpening Dash else maybe k (byOpening Flow) λ split. byOpening (Key split)) ≡ byOpening (if d then Dash else maybe k Flow Key)
+        go true k = refl
+        go false none = refl
+        go false (some split) = refl
 
-    pub block-sequence : dashed (l .text) ≡ true → (levels ≡ 0 → ⊥) → block cap levels sum ls ≡ blockSeq cap (within cap (levels - 1)) (l .indent) sum ls
-    unfolding blockOf if_then_else_ maybe given _>>=_
-    block-sequence d z = rw e (block-is (l ∷ rest) ∙ rw (d, inside-some cap levels z))
+  module _ (ls : List Line) (l : Line) (rest : List Line) (e : ls ≡ l ∷ rest) where
+    pub block-line : openingOf (l .text) ≡ Flow → block cap levels sum ls ≡ lineValue cap levels (l .number) sum (l .text) rest
+    unfolding byOpening
+    block-line o = rw e (by-opening l rest ∙ ap (byOpening l rest) o)
 
-    pub block-mapping : opens (l .text) ≡ true → dashed (l .text) ≡ false → (levels ≡ 0 → ⊥) → block cap levels sum ls ≡ blockMap cap (within cap (levels - 1)) (l .indent) sum ls
-    unfolding blockOf if_then_else_ maybe given _>>=_
-    block-mapping o d z = rw e (block-is (l ∷ rest) ∙ rw (d, opens-split (l .text) o d .is, inside-some cap levels z))
+    module _ (o : openingOf (l .text) ≡ Dash) where
+      pub sequence-deep : levels ≡ 0 → block cap levels sum ls ≡ refused 20 (l .number) 0
+      unfolding byOpening given _>>=_
+      sequence-deep z = rw e (by-opening l rest ∙ ap (byOpening l rest) o ∙ rw (inside-none cap levels z))
+
+      pub block-sequence : (levels ≡ 0 → ⊥) → block cap levels sum ls ≡ blockSeq cap (within cap (levels - 1)) (l .indent) sum ls
+      unfolding byOpening given _>>=_
+      block-sequence z = rw e (by-opening l rest ∙ ap (byOpening l rest) o ∙ rw (inside-some cap levels z))
+
+    module _ (split : ℕ) (o : openingOf (l .text) ≡ Key split) where
+      pub mapping-deep : levels ≡ 0 → block cap levels sum ls ≡ refused 20 (l .number) 0
+      unfolding byOpening given _>>=_
+      mapping-deep z = rw e (by-opening l rest ∙ ap (byOpening l rest) o ∙ rw (inside-none cap levels z))
+
+      pub block-mapping : (levels ≡ 0 → ⊥) → block cap levels sum ls ≡ blockMap cap (within cap (levels - 1)) (l .indent) sum ls
+      unfolding byOpening given _>>=_
+      block-mapping z = rw e (by-opening l rest ∙ ap (byOpening l rest) o ∙ rw (inside-some cap levels z))
 
 -- ---- a child
 

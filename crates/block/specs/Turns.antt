@@ -1,14 +1,14 @@
 -- Where the loops over lines stand, what each of their turns comes to, and what closes a collection. Assumes nothing.
-use mathlib.Core.Path.{_≡_, refl, sym, ap, _∙_, subst}
+use mathlib.Core.Path.{_≡_, refl, sym, ap, _∙_}
 use Prim.Native.Nat.{ℕ, zero, suc, _+_, _-_, _≤_, _<_}
 use native.Mathlib.Omega.{arith}
 use mathlib.Core.List.{List, [], _∷_, _++_, append-assoc}
-use mathlib.Core.Bool.{Bool, true, false, _&&_, not}
-use mathlib.Core.Option.{Option, none, some}
+use mathlib.Core.Bool.{Bool, true, false}
+use mathlib.Core.Option.{none, some}
 use lib.ListN.{length, take, drop, length-append, length-drop}
 use lib.Seq.{sets, length-sets, drop-drop, drop-at, take-at}
-use Rattle.refusal.specs.Base.{Answer, good, refused, _>>=_, _>>_, ensure, maybe, if_then_else_}
-use Rattle.refusal.specs.Told.{toldOf, refusal}
+use Rattle.refusal.specs.Base.{good, refused, _>>=_, _>>_, ensure, maybe, if_then_else_}
+use Rattle.refusal.specs.Told.{refusal}
 use Rattle.refusal.specs.declared.Refusal.{Refusal}
 use Rattle.utf8.specs.White.{trimStart}
 use Rattle.item.specs.Tree.{Yaml, seq, dict, Items, end, _◂_, Entries, done, pair, add, hasKey}
@@ -16,12 +16,11 @@ use Rattle.item.specs.Encode.{head, item, encode}
 use Rattle.item.specs.Size.{head-length, item-length}
 use Rattle.item.specs.Runs.{sets-append}
 use Rattle.lines.specs.Lines.{Line}
-use Rattle.scalar.specs.Read.{charge}
 use Rattle.flow.specs.Flow.{fresh}
 use Rattle.flow.specs.Turns.{headed, stored-front, snoc-bytes, add-bytes}
 use Rattle.literal.specs.Literal.{Read}
 use Rattle.literal.specs.Agree.{WroteBlock}
-use Rattle.block.specs.Block.{Inside, dashed, keyAt, entryAt, mapTurn, mapLines, entriesOf, blockMap, inlineMap, itemBehind, seqTurn, seqLines, itemsOf, blockSeq, within}
+use Rattle.block.specs.Block.{Inside, keyAt, entryAt, mapTurn, mapLines, entriesOf, blockMap, inlineMap, itemBehind, seqTurn, seqLines, itemsOf, blockSeq, within}
 use Rattle.block.specs.Agree.{keyHere, dashHere, WroteEntry}
 use Rattle.block.specs.Steps.{charged, uncharged}
 

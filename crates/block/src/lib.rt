@@ -2,33 +2,37 @@
 // of entries, of which the first `count` count; `levels` more collections may be opened; of `out` the first `at` bytes are used.
 ghost use mathlib.Core.Path.{_≡_};
 ghost use mathlib.Core.List.{List};
+ghost use mathlib.Core.Option.{some};
 ghost use Prim.Native.Nat.{_+_, _≤_, _<_, suc};
 ghost use lib.ListN.{length, drop};
 ghost use Rattle.item.specs.Tree as items;
 ghost use Rattle.utf8.specs.White.{trim, trimStart};
 ghost use Rattle.lines.specs.Lines.{Line};
-ghost use Rattle.lines.specs.Table.{tableLines, lineAt};
+ghost use Rattle.lines.specs.Table.{tableLines, lineAt, startAt, endAt, numberAt};
+ghost use Rattle.lines.specs.Ready.{Ready};
 ghost use Rattle.scalar.specs.Code.{foundOf};
 ghost use Rattle.literal.specs.Literal as literals;
-ghost use Rattle.literal.specs.Agree.{Ready, AgreesBlock};
+ghost use Rattle.literal.specs.Agree.{AgreesBlock};
 ghost use Rattle.block.specs.Block as definition;
 ghost use Rattle.block.specs.Block.{startsComplex, lineValue, blockKey, valueBehind, entryAt, entriesOf, blockMap, inlineMap, itemBehind, blockSeq, within};
-ghost use Rattle.block.specs.Agree as agree;
-ghost use Rattle.block.specs.Agree.{behindOf, keyHere, dashHere, startAt, endAt, numberAt, columnAt, textAt, Splits, AgreesKey, AgreesEntry};
+ghost use Rattle.block.specs.Agree.{openingOf, behindOf, keyHere, dashHere, columnAt, textAt, Splits, AgreesKey, AgreesEntry};
+use entries::has_key;
 use flow::Whole;
+use item::Found;
 use item::put_header;
 use item::put_null;
 use item::same_bytes;
-use keys::has_key;
+use lines::dash_at;
+use lines::dashed;
 use lines::entry_at;
+use lines::line_text;
 use literal::BlockRead;
 use literal::literal;
 use refusal::Refusal;
-use scalar::Found;
 use scalar::Role;
 use scalar::key_end;
-use utf8::trim_end;
 use utf8::trim_start;
+use utf8::trimmed;
 
 // What reading a key answers: the bytes of work that are used.
 pub enum KeyRead {
@@ -46,6 +50,13 @@ pub enum EntryRead {
     Refused(Refusal),
 }
 
+// What a line begins with: a dash, a key that ends at a place, or neither, so that it is one flow value.
+pub enum Opening {
+    Dash,
+    Key(usize),
+    Flow,
+}
+
 // What stands behind a key's colon.
 pub enum Behind {
     Nothing,
@@ -54,33 +65,16 @@ pub enum Behind {
     Value,
 }
 
-// Whether a line is `-` or starts with `- `.
-pub fn dashed(line: &[u8]) -> bool
-    ensures { λ r. ⌜ r ≡ definition.dashed (now (line .entry)) ⌝ }
-{
-    if line.len() == 0 {
-        return false;
-    }
-    if line[0] != b'-' {
-        return false;
-    }
-    if line.len() == 1 {
-        return true;
-    }
-    line[1] == b' '
-}
-
-// Whether a sequence or a mapping begins with a line.
-fn opens(line: &[u8]) -> bool
+fn opens_with(line: &[u8]) -> Opening
     requires { ⌜ length (now line) ≤ 65535 ⌝ }
-    ensures { λ r. ⌜ r ≡ agree.opens (now (line .entry)) ⌝ }
+    ensures { λ r. ⌜ r ≡ openingOf (now (line .entry)) ⌝ }
 {
     if dashed(line) {
-        return true;
+        return Opening::Dash;
     }
     match key_end(line) {
-        Found::At(_) => true,
-        Found::Nothing => false,
+        Found::At(split) => Opening::Key(split),
+        Found::Nothing => Opening::Flow,
     }
 }
 
@@ -97,19 +91,17 @@ fn starts_complex(key: &[u8]) -> bool
     }
 }
 
-// What stands behind a key's colon, from there to the line's end.
-fn behind_colon(s: &[u8]) -> Behind
-    ensures { λ r. ⌜ r ≡ behindOf (trim (now (s .entry))) ⌝ }
+// What the text behind a key's colon is, trimmed.
+fn behind_colon(t: &[u8]) -> Behind
+    ensures { λ r. ⌜ r ≡ behindOf (now (t .entry)) ⌝ }
 {
-    let from = trim_start(s, 0, s.len());
-    let to = trim_end(s, from, s.len());
-    if from == to {
+    if t.len() == 0 {
         return Behind::Nothing;
     }
-    if same_bytes(&s[from..to], b"|") {
+    if same_bytes(t, b"|") {
         return Behind::Literal;
     }
-    if same_bytes(&s[from..to], b"|-") {
+    if same_bytes(t, b"|-") {
         return Behind::Stripped;
     }
     Behind::Value
@@ -147,40 +139,22 @@ fn line_value(
     }
 }
 
-// The same without the white space at both ends.
-fn trimmed_value(
-    s: &[u8],
-    i: usize,
-    levels: usize,
-    number: u32,
-    out: &mut [u8],
-    at: usize,
-) -> BlockRead
-    requires { ⌜ (length (now s) ≤ 65535) × (at ≤ length (now out)) × (length (now out) ≤ 1048576) ⌝ }
-    ensures { λ r. ⌜ ((ls : List Line) → i ≤ length ls → AgreesBlock (lineValue (length (now (out .entry))) levels number at (trim (now (s .entry))) (drop i ls)) ls i (now (out .entry)) (now (out .exit)) at r) ⌝ }
-{
-    let from = trim_start(s, 0, s.len());
-    let to = trim_end(s, from, s.len());
-    line_value(&s[from..to], i, levels, number, out, at)
-}
-
 // The key before a colon.
 fn block_key(s: &[u8], levels: usize, number: u32, out: &mut [u8], at: usize) -> KeyRead
     requires { ⌜ (length (now s) ≤ 65535) × (at ≤ length (now out)) × (length (now out) ≤ 1048576) ⌝ }
     ensures { λ r. ⌜ AgreesKey (blockKey (length (now (out .entry))) levels number at (trim (now (s .entry)))) (now (out .entry)) (now (out .exit)) at r ⌝ }
 {
-    let from = trim_start(s, 0, s.len());
-    let to = trim_end(s, from, s.len());
-    if from == to {
+    let key = trimmed(s);
+    if key.len() == 0 {
         return KeyRead::Refused(Refusal::EmptyKey { line: number });
     }
-    if starts_complex(&s[from..to]) {
+    if starts_complex(key) {
         return KeyRead::Refused(Refusal::ComplexKey { line: number });
     }
-    match flow::flow(&s[from..to], levels, Role::AsKey, number, out, at) {
+    match flow::flow(key, levels, Role::AsKey, number, out, at) {
         Whole::Refused(e) => KeyRead::Refused(e),
-        Whole::Read { used, key } => {
-            if key {
+        Whole::Read { used, key: named } => {
+            if named {
                 KeyRead::Done(used)
             } else {
                 KeyRead::Refused(Refusal::KeyNotScalar { line: number })
@@ -233,11 +207,12 @@ fn entry_value(
     let line = &text[from..to];
     let end = line.len();
     let indent = entry.indent + (from - entry.start);
-    match behind_colon(&line[split + 1..end]) {
+    let behind = trimmed(&line[split + 1..end]);
+    match behind_colon(behind) {
         Behind::Nothing => child(text, table, count, i + 1, indent, levels, out, at),
         Behind::Literal => literal(text, table, count, i + 1, indent, false, out, at),
         Behind::Stripped => literal(text, table, count, i + 1, indent, true, out, at),
-        Behind::Value => trimmed_value(&line[split + 1..end], i + 1, levels, entry.number, out, at),
+        Behind::Value => line_value(behind, i + 1, levels, entry.number, out, at),
     }
 }
 
@@ -285,29 +260,30 @@ fn key_at(text: &[u8], table: &[u16], count: usize, i: usize, indent: usize) -> 
     if entry.indent != indent {
         return Found::Nothing;
     }
-    let start = entry.start;
-    let end = entry.end;
-    key_end(&text[start..end])
+    key_end(line_text(text, table, count, i))
 }
 
-// The entries of a mapping from line `first` on: the lines at this indentation that have a key end.
+// The entries of a mapping from line `first` on: the lines at this indentation that have a key end. `found` is
+// where the first one's key ends.
 fn entries(
     text: &[u8],
     table: &[u16],
     count: usize,
     first: usize,
+    found: Found,
     indent: usize,
     levels: usize,
     out: &mut [u8],
     at: usize,
 ) -> BlockRead
-    requires { ⌜ Ready (now text) (now table) count × (first ≤ count) × (at ≤ length (now out)) × (length (now out) ≤ 1048576) ⌝ }
+    requires { ⌜ Ready (now text) (now table) count × (first ≤ count) × (found ≡ foundOf (keyHere indent (drop first (tableLines (now text) (now table) count)))) × (at ≤ length (now out)) × (length (now out) ≤ 1048576) ⌝ }
     ensures { λ r. ⌜ AgreesBlock (entriesOf (length (now (out .entry))) (within (length (now (out .entry))) levels) indent at (drop first (tableLines (now (text .entry)) (now (table .entry)) count))) (tableLines (now (text .entry)) (now (table .entry)) count) first (now (out .entry)) (now (out .exit)) at r ⌝ }
 {
     let mut i = first;
+    let mut key = found;
     let mut p = at;
     loop {
-        let Found::At(split) = key_at(text, table, count, i, indent) else {
+        let Found::At(split) = key else {
             break;
         };
         let line = entry_at(table, i);
@@ -322,6 +298,7 @@ fn entries(
                     return BlockRead::Refused(Refusal::KeyTwice { line: line.number });
                 }
                 i = next;
+                key = key_at(text, table, count, next, indent);
                 p = used;
             }
         }
@@ -329,24 +306,35 @@ fn entries(
     BlockRead::Done { next: i, used: p }
 }
 
-// A mapping that begins with line `i`.
+// A mapping that begins with line `i`, whose key ends at `split`.
 fn mapping(
     text: &[u8],
     table: &[u16],
     count: usize,
     i: usize,
+    split: usize,
     indent: usize,
     levels: usize,
     out: &mut [u8],
     at: usize,
 ) -> BlockRead
-    requires { ⌜ Ready (now text) (now table) count × (i ≤ count) × (at ≤ length (now out)) × (length (now out) ≤ 1048576) ⌝ }
+    requires { ⌜ Ready (now text) (now table) count × (i < count) × (keyHere indent (drop i (tableLines (now text) (now table) count)) ≡ some split) × (at ≤ length (now out)) × (length (now out) ≤ 1048576) ⌝ }
     ensures { λ r. ⌜ AgreesBlock (blockMap (length (now (out .entry))) (within (length (now (out .entry))) levels) indent at (drop i (tableLines (now (text .entry)) (now (table .entry)) count))) (tableLines (now (text .entry)) (now (table .entry)) count) i (now (out .entry)) (now (out .exit)) at r ⌝ }
 {
     if out.len() - at < 6 {
         return BlockRead::Refused(Refusal::WorkTooShort);
     }
-    match entries(text, table, count, i, indent, levels, out, at + 6) {
+    match entries(
+        text,
+        table,
+        count,
+        i,
+        Found::At(split),
+        indent,
+        levels,
+        out,
+        at + 6,
+    ) {
         BlockRead::Refused(e) => BlockRead::Refused(e),
         BlockRead::Done { next, used } => {
             put_header(out, at, 5, used - at - 6);
@@ -381,16 +369,19 @@ fn inline_mapping(
             next,
             key_end,
             used,
-        } => match entries(text, table, count, next, indent, levels, out, used) {
-            BlockRead::Refused(e) => BlockRead::Refused(e),
-            BlockRead::Done { next: n, used: u } => {
-                if has_key(out, used, u, at + 12, key_end) {
-                    return BlockRead::Refused(Refusal::KeyTwice { line: line.number });
+        } => {
+            let key = key_at(text, table, count, next, indent);
+            match entries(text, table, count, next, key, indent, levels, out, used) {
+                BlockRead::Refused(e) => BlockRead::Refused(e),
+                BlockRead::Done { next: n, used: u } => {
+                    if has_key(out, used, u, at + 12, key_end) {
+                        return BlockRead::Refused(Refusal::KeyTwice { line: line.number });
+                    }
+                    put_header(out, at, 5, u - at - 6);
+                    BlockRead::Done { next: n, used: u }
                 }
-                put_header(out, at, 5, u - at - 6);
-                BlockRead::Done { next: n, used: u }
             }
-        },
+        }
     }
 }
 
@@ -430,13 +421,7 @@ fn goes_on(text: &[u8], table: &[u16], count: usize, i: usize, indent: usize) ->
     if i == count {
         return false;
     }
-    let line = entry_at(table, i);
-    if line.indent != indent {
-        return false;
-    }
-    let start = line.start;
-    let end = line.end;
-    dashed(&text[start..end])
+    dash_at(text, table, count, i, indent)
 }
 
 // A sequence that begins with line `first`.
@@ -488,16 +473,30 @@ pub fn block(
         return null(i, out, at);
     }
     let line = entry_at(table, i);
-    let start = line.start;
-    let end = line.end;
-    if !opens(&text[start..end]) {
-        return line_value(&text[start..end], i + 1, levels, line.number, out, at);
+    let t = line_text(text, table, count, i);
+    match opens_with(t) {
+        Opening::Flow => line_value(t, i + 1, levels, line.number, out, at),
+        Opening::Dash => {
+            if levels == 0 {
+                return BlockRead::Refused(Refusal::TooDeep { line: line.number });
+            }
+            sequence(text, table, count, i, line.indent, levels - 1, out, at)
+        }
+        Opening::Key(split) => {
+            if levels == 0 {
+                return BlockRead::Refused(Refusal::TooDeep { line: line.number });
+            }
+            mapping(
+                text,
+                table,
+                count,
+                i,
+                split,
+                line.indent,
+                levels - 1,
+                out,
+                at,
+            )
+        }
     }
-    if levels == 0 {
-        return BlockRead::Refused(Refusal::TooDeep { line: line.number });
-    }
-    if dashed(&text[start..end]) {
-        return sequence(text, table, count, i, line.indent, levels - 1, out, at);
-    }
-    mapping(text, table, count, i, line.indent, levels - 1, out, at)
 }

@@ -212,7 +212,7 @@ fn mapping(s: &[u8], start: usize, levels: usize, line: u32, out: &mut [u8], at:
                 key_end,
                 used,
             } => {
-                if keys::has_key(out, at + 6, p, p + 6, key_end) {
+                if entries::has_key(out, at + 6, p, p + 6, key_end) {
                     return Parsed::Refused(Refusal::KeyTwice { line });
                 }
                 i = next;

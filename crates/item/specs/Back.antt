@@ -12,7 +12,7 @@ use lib.Signed.{mag}
 use lib.IntN.{ℤ, pos, negsuc}
 use borrow.Author.Tests.{le-leb, lt-ltb, le-ltb}
 use Rattle.refusal.specs.Base.{if_then_else_}
-use Rattle.item.specs.Tree.{Shape, one, many, keyed, Node, Yaml, null, bool, int, str, seq, dict, end, _▸_, done, pair, levels}
+use Rattle.item.specs.Tree.{Ranged, Shape, one, many, keyed, Node, Yaml, null, bool, int, str, seq, dict, end, _▸_, done, pair, levels}
 use Rattle.item.specs.Encode.{le, number, head, item, flag, twos, encode}
 use Rattle.item.specs.Decode.{_>>=_, header, unflag, untwos, nothing, unint, unkey, decodeItems, decodeEntries, contentOf, node, decode}
 use Rattle.item.specs.Size.{le-length, head-length, item-length, content-small, encode-long}
@@ -58,26 +58,13 @@ header-item k c r hk hc =
     long : length w ≡ 6 + (n + length r)
     long = simp (length-append, head-length)
 
--- every integer has 64 bits
-abbrev pub Ranged : {s : Shape} → Node s → Type 0
-Ranged null = Unit {0}
-Ranged (bool b) = Unit {0}
-Ranged (int z) = mag z < 2 ^ 63
-Ranged (str s) = Unit {0}
-Ranged (seq ys) = Ranged ys
-Ranged (dict es) = Ranged es
-Ranged end = Unit {0}
-Ranged (y ▸ ys) = Ranged y × Ranged ys
-Ranged done = Unit {0}
-Ranged (pair k v es) = Ranged v × Ranged es
-
-twos-back : (z : ℤ) → mag z < 2 ^ 63 → untwos (twos z) ≡ z
+pub twos-back : (z : ℤ) → mag z < 2 ^ 63 → untwos (twos z) ≡ z
 unfolding untwos twos if_then_else_
 twos-back (pos n) h = rw (lt-ltb n (2 ^ 63) h)
 twos-back (negsuc n) h =
     rw (le-ltb (0xffff_ffff_ffff_ffff - n) (2 ^ 63) (omega arith)) (ap negsuc (omega arith))
 
-twos-small : (z : ℤ) → mag z < 2 ^ 63 → twos z < 256 ^ 8
+pub twos-small : (z : ℤ) → mag z < 2 ^ 63 → twos z < 256 ^ 8
 unfolding twos
 twos-small (pos n) h = omega arith
 twos-small (negsuc n) h = omega arith

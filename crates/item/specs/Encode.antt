@@ -4,7 +4,7 @@ use mathlib.Core.List.{List, [], _∷_, _++_}
 use mathlib.Core.Bool.{Bool, true, false}
 use lib.ListN.{length}
 use lib.IntN.{ℤ, pos, negsuc, negℤ}
-use Rattle.item.specs.Tree.{Shape, Node, null, bool, int, str, seq, dict, end, _▸_, done, pair}
+use Rattle.item.specs.Tree.{Shape, Node, Yaml, null, bool, int, str, seq, dict, end, _▸_, done, pair}
 
 -- so many bytes of a number, the lowest first
 unfoldable pub le : ℕ → ℕ → List ℕ
@@ -50,6 +50,15 @@ encode (y ▸ ys) = encode y ++ encode ys
 encode done = []
 encode (pair k v es) = item 3 k ++ (encode v ++ encode es)
 
+-- the kind of a value's item
+unfoldable pub kindOf : Yaml → ℕ
+kindOf null = 0
+kindOf (bool b) = 1
+kindOf (int z) = 2
+kindOf (str s) = 3
+kindOf (seq ys) = 4
+kindOf (dict es) = 5
+
 unfoldable pub Encode-open : Unit {0}
-unfolding le number head item flag twos signed encode
+unfolding le number head item flag twos signed encode kindOf
 Encode-open = tt

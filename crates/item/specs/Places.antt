@@ -27,7 +27,7 @@ headerAt s at =
 
 -- ---- numbers at places
 
-take-next : (s : List ℕ) (i k : ℕ) → i < length s → take (suc k) (drop i s) ≡ getD s i 0 ∷ take k (drop (suc i) s)
+pub take-next : (s : List ℕ) (i k : ℕ) → i < length s → take (suc k) (drop i s) ≡ getD s i 0 ∷ take k (drop (suc i) s)
 take-next s i k h = rw (drop-cons s i 0 h)
 
 module _ (s : List ℕ) (i : ℕ) where

@@ -1,9 +1,11 @@
 -- Trees: what a text says, before it is asked whether it is a scenario. Assumes nothing.
-use Prim.Native.Nat.{ℕ, suc, max}
+use Prim.Native.Nat.{ℕ, suc, max, _^_, _<_}
 use mathlib.Core.List.{List}
 use mathlib.Core.Bool.{Bool, true, false, _||_}
+use mathlib.Core.Option.{Option, none, some}
 use lib.IntN.{ℤ}
-use Rattle.refusal.specs.Base.{same}
+use lib.Signed.{mag}
+use Rattle.refusal.specs.Base.{if_then_else_, same}
 
 -- a value, the items of a sequence, the entries of a mapping: three shapes of one family, so that one function serves them all
 pub data Shape : Type 0 where
@@ -44,6 +46,19 @@ levels (y ▸ ys) = max (levels y) (levels ys)
 levels done = 0
 levels (pair k v es) = max (levels v) (levels es)
 
+-- every integer has 64 bits
+abbrev pub Ranged : {s : Shape} → Node s → Type 0
+Ranged null = Unit {0}
+Ranged (bool b) = Unit {0}
+Ranged (int z) = mag z < 2 ^ 63
+Ranged (str s) = Unit {0}
+Ranged (seq ys) = Ranged ys
+Ranged (dict es) = Ranged es
+Ranged end = Unit {0}
+Ranged (y ▸ ys) = Ranged y × Ranged ys
+Ranged done = Unit {0}
+Ranged (pair k v es) = Ranged v × Ranged es
+
 -- ---- sequences and mappings as they grow, and the search for a key
 
 unfoldable pub _◂_ : Items → Yaml → Items
@@ -67,6 +82,11 @@ unfoldable pub hasKey : List ℕ → Entries → Bool
 hasKey k done = false
 hasKey k (pair j v es) = same j k || hasKey k es
 
+-- the value of a key
+unfoldable pub get : List ℕ → Entries → Option Yaml
+get k done = none
+get k (pair j v es) = if same j k then some v else get k es
+
 unfoldable pub Tree-open : Unit {0}
-unfolding levels _◂_ noItem add noEntry hasKey
+unfolding levels _◂_ noItem add noEntry hasKey get
 Tree-open = tt

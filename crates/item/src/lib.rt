@@ -18,6 +18,12 @@ pub enum Header {
     PastEnd,
 }
 
+// A place that was looked for.
+pub enum Found {
+    At(usize),
+    Nothing,
+}
+
 pub fn put_header(out: &mut [u8], at: usize, kind: usize, size: usize)
     requires { ⌜ (at + 6 ≤ length (now out)) × (kind < 65536) × (size < 4294967296) ⌝ }
     ensures { λ _. ⌜ now (out .exit) ≡ sets (now (out .entry)) at (head kind size) ⌝ }

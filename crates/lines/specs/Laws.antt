@@ -10,7 +10,7 @@ use lib.Dec.{eqb, leb}
 use lib.ListN.{length, take, drop, getD, drop-of-length-le}
 use lib.Seq.{drop-cons, take-add}
 use borrow.Author.Tests.{eq-eqb, ne-eqb, eqb-true, eqb-false, leb-true, leb-false}
-use Rattle.refusal.specs.Base.{if_then_else_, maybe, ch, same, endsWith}
+use Rattle.refusal.specs.Base.{if_then_else_, maybe, ch, bytes, same, endsWith}
 use Rattle.item.specs.Same.{same-ne}
 use Rattle.utf8.specs.Utf8.{within}
 use Rattle.utf8.specs.Part.{part}
@@ -18,7 +18,8 @@ use Rattle.utf8.specs.White.{white1, white2, in2000, white3, whiteAt, whiteLen,
 use Rattle.utf8.specs.Laws.{part-cons, part-empty, leading-none, leading-on}
 use Rattle.lines.specs.declared.Place.{Place}
 use Rattle.lines.specs.declared.Place.the-variants.{Fresh}
-use Rattle.lines.specs.Lines.{indentOf, hasTab, tabbed, startsComment, placeAfter, uncommented, stripComment}
+use Rattle.lines.specs.Lines.{Line, indentOf, hasTab, tabbed, startsComment, placeAfter, uncommented, stripComment}
+use Rattle.lines.specs.Dash.{dashed, isDash}
 use Rattle.lines.specs.Places.{untilNewline}
 
 -- ---- newlines
@@ -226,3 +227,43 @@ ends-at p (b ∷ t) h = go (leb (length p) (length t)) refl (ends-at p t)
         let m : length t < length p = leb-false (length p) (length t) e in
         let d : suc (length t) - length p ≡ 0 = omega arith in
         rw (d, ends-short p t m) (or-false (same p (b ∷ t)))
+
+-- ---- dashes
+
+pub dashed-empty : (t : List ℕ) → length t ≡ 0 → false ≡ dashed t
+unfolding dashed same bytes
+dashed-empty [] e = refl
+dashed-empty (b ∷ t) e = absurd (omega arith)
+
+pub dashed-other : (t : List ℕ) → 0 < length t → (getD t 0 0 ≡ ch "-" → ⊥) → false ≡ dashed t
+unfolding dashed same bytes
+dashed-other [] h n = absurd (omega arith)
+dashed-other (b ∷ t) h n = rw (ne-eqb b (ch "-") n)
+
+pub dashed-alone : (t : List ℕ) → length t ≡ 1 → getD t 0 0 ≡ ch "-" → true ≡ dashed t
+unfolding dashed same bytes
+dashed-alone [] h e = absurd (omega arith)
+dashed-alone (b ∷ []) h e = rw (eq-eqb b (ch "-") e)
+dashed-alone (b ∷ c ∷ t) h e = absurd (omega arith)
+
+pub dashed-more : (t : List ℕ) → 1 < length t → getD t 0 0 ≡ ch "-" → eqb (getD t 1 0) (ch " ") ≡ dashed t
+unfolding dashed same bytes
+dashed-more [] h e = absurd (omega arith)
+dashed-more (b ∷ []) h e = absurd (omega arith)
+dashed-more (b ∷ c ∷ t) h e = rw (eq-eqb b (ch "-") e) (go (eqb c (ch " ")))
+  where
+    go : (x : Bool) → x ≡ (x && true)
+    go true = refl
+    go false = refl
+
+pub dashed-filled : (t : List ℕ) → dashed t ≡ true → 0 < length t
+unfolding dashed same bytes
+dashed-filled [] e = absurd (false≢true e)
+dashed-filled (b ∷ t) e = omega arith
+
+module _ (indent : ℕ) (l : Line) where
+  pub dash-elsewhere : (l .indent ≡ indent → ⊥) → false ≡ isDash indent l
+  dash-elsewhere n = rw (ne-eqb (l .indent) indent n)
+
+  pub dash-here : l .indent ≡ indent → dashed (l .text) ≡ isDash indent l
+  dash-here e = rw (eq-eqb (l .indent) indent e)

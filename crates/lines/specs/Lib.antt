@@ -1,6 +1,10 @@
 pub mod Lines
+pub mod Dash
 pub mod Table
+pub mod Ready
 pub mod Places
 pub mod Laws
 pub mod TableLaws
 pub mod StepLaws
+pub mod Rows
+pub mod Ends

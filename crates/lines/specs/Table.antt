@@ -13,9 +13,22 @@ use Rattle.lines.specs.declared.LinesAnswer.{LinesAnswer}
 use Rattle.lines.specs.declared.LinesAnswer.the-variants.{Read, Refused}
 use Rattle.lines.specs.Lines.{Line, line, Event, scan, collect, significantLines}
 
--- entry `i`: indentation, start and end of its text, line number
+-- the numbers of entry `i`: its indentation, the start and the end of its text, its line's number
+abbrev pub indentAt : List ℕ → ℕ → ℕ
+indentAt table i = getD table (4 * i) 0
+
+abbrev pub startAt : List ℕ → ℕ → ℕ
+startAt table i = getD table (4 * i + 1) 0
+
+abbrev pub endAt : List ℕ → ℕ → ℕ
+endAt table i = getD table (4 * i + 2) 0
+
+abbrev pub numberAt : List ℕ → ℕ → ℕ
+numberAt table i = getD table (4 * i + 3) 0
+
+-- the line that it stands for
 abbrev pub lineAt : List ℕ → List ℕ → ℕ → Line
-lineAt text table i = line (getD table (4 * i) 0) (part text (getD table (4 * i + 1) 0) (getD table (4 * i + 2) 0)) (getD table (4 * i + 3) 0)
+lineAt text table i = line (indentAt table i) (part text (startAt table i) (endAt table i)) (numberAt table i)
 
 -- the lines that the first entries of a table stand for
 unfoldable pub tableLines : List ℕ → List ℕ → ℕ → List Line
@@ -24,18 +37,18 @@ tableLines text table (suc n) = tableLines text table n ++ lineAt text table n �
 
 -- an entry's text lies in the text
 pub record Within (text table : List ℕ) (i : ℕ) : Type 0 where
-  pub ordered : getD table (4 * i + 1) 0 ≤ getD table (4 * i + 2) 0
-  pub inside : getD table (4 * i + 2) 0 ≤ length text
+  pub ordered : startAt table i ≤ endAt table i
+  pub inside : endAt table i ≤ length text
 
 abbrev pub Placed : List ℕ → List ℕ → ℕ → Type 0
 Placed text table n = (i : ℕ) → i < n → Within text table i
 
 -- entry `i` of a table, as the code has it
 pub record IsEntry (table : List ℕ) (i : ℕ) (entry : Entry) : Type 0 where
-  pub indent′ : entry .indent ≡ getD table (4 * i) 0
-  pub start′ : entry .start ≡ getD table (4 * i + 1) 0
-  pub end′ : entry .end ≡ getD table (4 * i + 2) 0
-  pub number′ : entry .number ≡ getD table (4 * i + 3) 0
+  pub indent′ : entry .indent ≡ indentAt table i
+  pub start′ : entry .start ≡ startAt table i
+  pub end′ : entry .end ≡ endAt table i
+  pub number′ : entry .number ≡ numberAt table i
   pub narrow : (entry .indent ≤ 65535) × (entry .end ≤ 65535)
 
 -- the answer and the table are those of the definition; a refusal leaves anything in the table

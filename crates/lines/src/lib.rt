@@ -8,8 +8,11 @@ ghost use lib.Seq.{sets};
 ghost use Rattle.refusal.specs.Base.{endsWith};
 ghost use Rattle.utf8.specs.Part.{part};
 ghost use Rattle.lines.specs.Lines.{indentOf, tabbed, afterPlain, placeAfter, startsComment, stripComment, isMarker, opensLiteral, literalOf, Event, blanksBefore, scan};
+ghost use Rattle.lines.specs.Dash as definition;
+ghost use Rattle.lines.specs.Dash.{isDash};
 ghost use Rattle.lines.specs.Places.{untilNewline, LineEnds, IsRaw, RawAt, rawText, normal, body};
-ghost use Rattle.lines.specs.Table.{Took, Takes, Agrees, IsEntry};
+ghost use Rattle.lines.specs.Table.{lineAt, Took, Takes, Agrees, IsEntry};
+ghost use Rattle.lines.specs.Ready.{Ready};
 use item::same_bytes;
 use refusal::Refusal;
 use utf8::trim_end;
@@ -465,4 +468,44 @@ pub fn entry_at(table: &[u16], i: usize) -> Entry
         end: wide(table[4 * i + 2]),
         number: wide(table[4 * i + 3]) as u32,
     }
+}
+
+// The text of entry `i`.
+pub fn line_text<'a>(text: &'a [u8], table: &[u16], count: usize, i: usize) -> &'a [u8]
+    requires { ⌜ Ready (now text) (now table) count × (i < count) ⌝ }
+    ensures { λ r. ⌜ now r ≡ lineAt (now (text .entry)) (now (table .entry)) i .text ⌝ }
+    ensures short { λ r. ⌜ length (now r) ≤ 65535 ⌝ }
+{
+    let entry = entry_at(table, i);
+    let start = entry.start;
+    let end = entry.end;
+    &text[start..end]
+}
+
+// Whether a line is `-` or starts with `- `.
+pub fn dashed(line: &[u8]) -> bool
+    ensures { λ r. ⌜ r ≡ definition.dashed (now (line .entry)) ⌝ }
+{
+    if line.len() == 0 {
+        return false;
+    }
+    if line[0] != b'-' {
+        return false;
+    }
+    if line.len() == 1 {
+        return true;
+    }
+    line[1] == b' '
+}
+
+// Whether entry `i` is such a line at this indentation.
+pub fn dash_at(text: &[u8], table: &[u16], count: usize, i: usize, indent: usize) -> bool
+    requires { ⌜ Ready (now text) (now table) count × (i < count) ⌝ }
+    ensures { λ r. ⌜ r ≡ isDash indent (lineAt (now (text .entry)) (now (table .entry)) i) ⌝ }
+{
+    let entry = entry_at(table, i);
+    if entry.indent != indent {
+        return false;
+    }
+    dashed(line_text(text, table, count, i))
 }

@@ -1,39 +1,17 @@
--- What the readers of lines ask of the table, and what they promise. Assumes nothing.
+-- What the readers of lines promise. Assumes nothing.
 use mathlib.Core.Path.{_≡_}
 use Prim.Native.Nat.{ℕ, _+_, _≤_}
-use mathlib.Core.List.{List, [], _∷_, _++_}
+use mathlib.Core.List.{List}
 use lib.ListN.{length, drop}
 use lib.Seq.{sets}
-use Rattle.refusal.specs.Base.{good, ch}
+use Rattle.refusal.specs.Base.{good}
 use Rattle.refusal.specs.Told.{refusal}
 use Rattle.item.specs.Tree.{Shape, Node}
 use Rattle.item.specs.Encode.{encode}
 use Rattle.lines.specs.Lines.{Line}
-use Rattle.lines.specs.Table.{tableLines, Placed}
 use Rattle.literal.specs.declared.BlockRead.{BlockRead}
 use Rattle.literal.specs.declared.BlockRead.the-variants.{Done, Refused}
 use Rattle.literal.specs.Literal.{Read}
-
--- a text that ends in a byte other than a newline
-pub record Closed (t : List ℕ) : Type 0 where
-  pub front : List ℕ
-  pub last : ℕ
-  pub is : t ≡ front ++ last ∷ []
-  pub other : last ≡ ch "\n" → ⊥
-
--- lines of which each blank one stands before one of its indentation, and each other one ends in a byte other than a newline
-pub data Ended : List Line → Type 0 where
-  none : Ended []
-  blank : (l m : Line) (ls : List Line) → l .text ≡ [] → m .indent ≡ l .indent → Ended (m ∷ ls) → Ended (l ∷ m ∷ ls)
-  full : (l : Line) (ls : List Line) → Closed (l .text) → Ended ls → Ended (l ∷ ls)
-
--- a text and the table of its lines
-pub record Ready (text table : List ℕ) (count : ℕ) : Type 0 where
-  pub short : length text ≤ 65535
-  pub whole : length table ≡ 8192
-  pub few : count ≤ 2048
-  pub placed : Placed text table count
-  pub ended : Ended (tableLines text table count)
 
 -- a value, or the entries of a mapping, read from the line `i` of `ls` up to the line `next`, and written from `at` up to `used`
 pub record WroteBlock {s : Shape} (answer : Read (Node s)) (ls : List Line) (i : ℕ) (old new : List ℕ) (at next used : ℕ) : Type 0 where

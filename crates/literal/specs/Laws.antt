@@ -18,11 +18,11 @@ use Rattle.item.specs.Runs.{sets-append, sets-item}
 use Rattle.lines.specs.Lines.{Line}
 use Rattle.lines.specs.declared.Entry.{Entry}
 use Rattle.lines.specs.Table.{lineAt, tableLines, Placed, IsEntry}
+use Rattle.lines.specs.Rows.{rows-next, rows-end}
 use Rattle.scalar.specs.Read.{cost, charge}
 use Rattle.literal.specs.Literal.{leaf, onto, literalLine, literalLines}
 use Rattle.literal.specs.Walk.{bodyFrom, restFrom, Counted, Extent}
 use Rattle.literal.specs.Agree.{WroteBlock}
-use Rattle.literal.specs.Rows.{rows-next, rows-end}
 
 -- ---- lines
 
@@ -48,7 +48,7 @@ module _ (text table : List ℕ) (count indent : ℕ) where
 
   pub row-end : literalLines indent (drop count (tableLines text table count)) ≡ ([], drop count (tableLines text table count))
   unfolding literalLines
-  row-end = rw (rows-end text table count)
+  row-end = rw (rows-end text table count count refl)
 
   module _ (i : ℕ) (h : i < count) where
     pub row-stop : getD table (4 * i) 0 < indent → literalLines indent (drop i (tableLines text table count)) ≡ ([], drop i (tableLines text table count))

@@ -1,7 +1,6 @@
 pub mod Literal
 pub mod Agree
 pub mod Walk
-pub mod Rows
 pub mod Laws
 pub mod Ends
 pub mod Whole

@@ -11,13 +11,15 @@ use Rattle.refusal.specs.Base.{if_then_else_, refused}
 use Rattle.item.specs.Tree.{str}
 use Rattle.item.specs.Encode.{head}
 use Rattle.lines.specs.Table.{lineAt, tableLines}
+use Rattle.lines.specs.Ready.{Ready}
+use Rattle.lines.specs.Rows.{rows-length, rows-next, rows-end}
+use Rattle.lines.specs.Ends.{ended-drop}
 use Rattle.literal.specs.declared.Body.{Body}
 use Rattle.literal.specs.Literal.{leaf, literalLine, literalLines, literalUnder, dropNewlines, literal}
-use Rattle.literal.specs.Agree.{Ready, WroteBlock}
+use Rattle.literal.specs.Agree.{WroteBlock}
 use Rattle.literal.specs.Walk.{bodyFrom, restFrom, Extent, whole}
-use Rattle.literal.specs.Rows.{rows-length, rows-next, rows-end}
 use Rattle.literal.specs.Laws.{line-length, row-body, leaf-short, wrote-string}
-use Rattle.literal.specs.Ends.{ended-drop, kept-front}
+use Rattle.literal.specs.Ends.{kept-front}
 
 -- ---- a key with no literal below it, or with one
 
@@ -29,7 +31,7 @@ nothing-kept false = refl
 module _ (text table : List ℕ) (count cap : ℕ) (strip : Bool) (under sum : ℕ) where
   pub literal-none : (i : ℕ) → i ≡ count → literal cap strip under sum (drop i (tableLines text table count)) ≡ leaf cap sum (str []) (drop i (tableLines text table count))
   unfolding literal literalUnder
-  literal-none i e = rw (e, rows-end text table count, nothing-kept strip)
+  literal-none i e = rw (rows-end text table count i e, nothing-kept strip)
 
   module _ (i : ℕ) (h : i < count) where
     pub literal-beside : getD table (4 * i) 0 ≤ under → literal cap strip under sum (drop i (tableLines text table count)) ≡ leaf cap sum (str []) (drop i (tableLines text table count))

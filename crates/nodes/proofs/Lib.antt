@@ -1,1 +1,3 @@
-mod Lost
+pub mod Storing
+mod Numbers
+mod Texts

@@ -1,4 +1,1 @@
 pub mod Agree
-pub mod Meanings
-pub mod Laws
-pub mod Texts

@@ -1,30 +1,28 @@
-// A tree where it stands in its bytes: entries, values found by their keys, scalars as key text. What is written is stored as far as
-// it fits and summed beyond that, so that one walk serves for both.
+// What is written of a tree where it stands in its bytes: scalars as key text, values as they are. It is stored as far as it fits and
+// summed beyond that, so that one walk serves for both.
 ghost use mathlib.Core.Path.{_≡_};
-ghost use mathlib.Core.List.{List, []};
-ghost use mathlib.Core.Bool.{Bool, true, false};
+ghost use mathlib.Core.List.{[]};
+ghost use mathlib.Core.Bool.{true, false};
 ghost use mathlib.Core.Option.{Option, none};
-ghost use Prim.Native.Nat.{ℕ, _+_, _-_, _≤_, _<_};
+ghost use Prim.Native.Nat.{_+_, _-_, _≤_, _<_};
 ghost use lib.ListN.{length, take, drop, getD};
 ghost use lib.Seq.{sets};
 ghost use lib.Dec.{ltb};
 ghost use Rattle.refusal.specs.Base.{maybe};
 ghost use Rattle.item.specs.Tree as trees;
-ghost use Rattle.item.specs.Tree.{Yaml, Entries, pair};
+ghost use Rattle.item.specs.Tree.{Yaml, Ranged};
 ghost use Rattle.item.specs.Encode as items;
 ghost use Rattle.item.specs.Encode.{head, number, encode, signed};
 ghost use Rattle.item.specs.Decode.{untwos};
-ghost use Rattle.item.specs.Back.{Ranged};
 ghost use Rattle.scalar.specs.Scalars.{text, boolText, intText};
-ghost use Rattle.nodes.specs.declared.Pair.the-variants as pairs;
-ghost use Rattle.nodes.specs.Agree.{Stands, Holds, get, Finds, Inside, Stored, Near, RendersAs, RendersNear, kindOf, PairPlaces};
+ghost use Rattle.entries.specs.Entries.{Stands, Finds};
+ghost use Rattle.nodes.specs.Agree.{Stored, Near, RendersAs, RendersNear};
+use item::Found;
 use item::Header;
 use item::copy;
 use item::header_at;
 use item::put_header;
-use item::same_bytes;
 use refusal::Refusal;
-use scalar::Found;
 use scalar::integers::int_len;
 use scalar::integers::put_int_text;
 
@@ -44,18 +42,6 @@ pub enum Rendered {
 pub enum Part {
     Done(usize),
     Refused(Refusal),
-}
-
-// An entry of a mapping in its bytes: where its key's text begins and ends, which is where its value's item begins; the value's kind
-// and its end.
-pub enum Pair {
-    At {
-        start: usize,
-        end: usize,
-        kind: usize,
-        next: usize,
-    },
-    Nowhere,
 }
 
 // Copies bytes if they fit, and tells where they end.
@@ -197,62 +183,6 @@ pub fn render(s: &[u8], p: usize, out: &mut [u8], at: usize) -> Rendered
         return Rendered::Text(put(out, at, &s[p..to]));
     }
     Rendered::NoScalar
-}
-
-pub fn pair_at(s: &[u8], at: usize) -> Pair
-    ensures { λ r. ⌜ PairPlaces (now (s .entry)) at r ⌝ }
-    ensures entry { λ r. ⌜ ((k : List ℕ) (v : Yaml) (es : Entries) → length (now (s .entry)) ≤ 1048576 → Stands (now (s .entry)) at (encode (pair k v es)) → r ≡ pairs.At (at + 6) (at + 6 + length k) (kindOf v) (at + 6 + length k + length (encode v))) ⌝ }
-{
-    let head = header_at(s, at);
-    let Header::Item {
-        kind: _,
-        from: start,
-        to: end,
-    } = head
-    else {
-        return Pair::Nowhere;
-    };
-    let value = header_at(s, end);
-    let Header::Item {
-        kind,
-        from: _,
-        to: next,
-    } = value
-    else {
-        return Pair::Nowhere;
-    };
-    Pair::At {
-        start,
-        end,
-        kind,
-        next,
-    }
-}
-
-// The place of a key's value among the entries from `from` to `to`.
-pub fn find(s: &[u8], from: usize, to: usize, key: &[u8]) -> Found
-    requires { ⌜ (length (now s) ≤ 1048576) × (to ≤ length (now s)) ⌝ }
-    ensures { λ r. ⌜ Inside (now (s .entry)) r ⌝ }
-    ensures value { λ r. ⌜ ((es : Entries) → Holds (now (s .entry)) from to es → Finds (now (s .entry)) (get (now (key .entry)) es) r) ⌝ }
-{
-    let mut at = from;
-    while at < to {
-        let pair = pair_at(s, at);
-        let Pair::At {
-            start,
-            end,
-            kind: _,
-            next,
-        } = pair
-        else {
-            return Found::Nothing;
-        };
-        if same_bytes(&s[start..end], key) {
-            return Found::At(end);
-        }
-        at = next;
-    }
-    Found::Nothing
 }
 
 // The text of a value that was looked for, or an empty one where there is no scalar.

@@ -1,33 +1,20 @@
 -- What the functions inside the check answer, by the definitions of `Read`. Assumes nothing.
 use mathlib.Core.Path.{_≡_}
-use Prim.Native.Nat.{ℕ, zero, suc, _+_, _-_, _≤_}
+use Prim.Native.Nat.{ℕ, _+_, _-_, _≤_}
 use mathlib.Core.List.{List}
 use mathlib.Core.Bool.{Bool, true, false, _||_}
 use mathlib.Core.Option.{Option, none, some}
 use lib.Dec.{eqb}
 use lib.ListN.{length, take, drop}
 use Rattle.refusal.specs.Base.{if_then_else_, maybe, oneOf}
-use Rattle.item.specs.Tree.{Yaml, null, bool, int, str, seq, dict}
-use Rattle.item.specs.Places.{headerAt}
-use Rattle.item.specs.declared.Header.{Header}
-use Rattle.item.specs.declared.Header.the-variants.{Item, Cut, PastEnd}
+use Rattle.item.specs.Tree.{Yaml}
+use Rattle.item.specs.Encode.{kindOf}
 use Rattle.value.specs.declared.End.{End}
 use Rattle.value.specs.declared.End.the-variants.{At, Nowhere}
-use Rattle.record.specs.Meaning.{builtInSteps}
+use Rattle.meaning.specs.Meaning.{builtInSteps}
 use Rattle.record.specs.Read.{fieldOf, asText, content, inItem, all, stepIn, defaultsIn, restIn, meaningOf}
 use Rattle.record.specs.declared.Count.{Count}
 use Rattle.record.specs.declared.Count.the-variants.{Steps, Bad}
-use Rattle.record.specs.declared.Lookup.{Lookup}
-use Rattle.record.specs.declared.Lookup.the-variants.{Found, Nothing}
-
--- the kind of a tree's item
-unfoldable pub kindOf : Yaml → ℕ
-kindOf null = 0
-kindOf (bool b) = 1
-kindOf (int z) = 2
-kindOf (str s) = 3
-kindOf (seq ys) = 4
-kindOf (dict es) = 5
 
 -- a tree of one of two kinds
 unfoldable pub ofKind : ℕ → ℕ → Yaml → Option Yaml
@@ -75,19 +62,3 @@ meaningSteps s = maybe (meaningOf s) none (λ m. some (length (m .steps)))
 abbrev pub countOf : Count → Option ℕ
 countOf (Steps n) = some n
 countOf Bad = none
-
--- ---- the item behind others, by the lengths in their headers
-
-unfoldable pub foundAt : ℕ → Header → Lookup
-foundAt at (Item kind from to) = Found at to
-foundAt at Cut = Nothing
-foundAt at PastEnd = Nothing
-
-unfoldable pub behind : Header → (ℕ → Lookup) → Lookup
-behind (Item kind from to) more = more to
-behind Cut more = Nothing
-behind PastEnd more = Nothing
-
-unfoldable pub nthItem : List ℕ → ℕ → ℕ → Lookup
-nthItem s at zero = foundAt at (headerAt s at)
-nthItem s at (suc skip) = behind (headerAt s at) (λ to. nthItem s to skip)

@@ -4,19 +4,23 @@ use Prim.Native.Nat.{ℕ, suc, _+_, _≤_, _<_}
 use native.Mathlib.Omega.{arith}
 use mathlib.Core.List.{List, map}
 use mathlib.Core.Option.{Option, none, some}
-use lib.ListN.{length, take}
+use lib.ListN.{length, take, getD}
 use Rattle.refusal.specs.Base.{Answer, good, refused, _>>=_, maybe, given}
-use Rattle.record.specs.Meaning.{Meaning}
-use Rattle.record.specs.Record.{joined, stepItem, fields}
-use Rattle.record.specs.Rules.{limit}
+use Rattle.meaning.specs.Meaning.{Meaning}
+use Rattle.meaning.specs.Record.{joined, stepItem, fields}
+use Rattle.meaning.specs.Rules.{limit}
 use Rattle.record.specs.Read.{content, meaningOf, meaningIn}
 use Rattle.record.specs.Jobs as job
-use Rattle.record.specs.Jobs.{Found, nothing, part, opened, checkRecord, partAt, stepsStart, lookupOf}
-use Rattle.record.specs.Agree.{Held, nthItem, meaningSteps}
+use Rattle.record.specs.Jobs.{Found, nothing, part, opened, checkRecord, partAt, stepsStart, answerOf, spanOf}
+use Rattle.record.specs.Agree.{Held, meaningSteps}
+use Rattle.entries.specs.Entries.{nthItem}
 use Rattle.record.specs.Chains.{inPart, whole₁, whole₂, whole₃, whole₄}
-use Rattle.record.specs.Lookups.{Opened, field-is, step-is, numbered-in, numbered-out, field-found, step-found, length-steps}
-use Rattle.record.specs.declared.Lookup.{Lookup}
-use Rattle.record.specs.declared.Lookup.the-variants.{Found as FoundPart}
+use Rattle.value.specs.Contents.{bytes-of}
+use Rattle.record.specs.declared.RecordAnswer.{RecordAnswer}
+use Rattle.record.specs.declared.RecordAnswer.the-variants.{Good}
+use Rattle.record.specs.Lookups.{Opened, opening, field-is, step-is, numbered-in, numbered-out, field-found, step-found, length-steps}
+use Rattle.entries.specs.declared.Span.{Span}
+use Rattle.entries.specs.declared.Span.the-variants.{At}
 
 -- ---- the check
 
@@ -44,14 +48,19 @@ module _ (b : List ℕ) where
           go none = refl
           go (some m) = refl
 
--- ---- the lookups in a good record
+-- ---- the lookups
+
+pub opened-as : (b : List ℕ) {r : RecordAnswer} {n : ℕ} → ((i : ℕ) → getD b i 0 < 256) → r ≡ Good n → answerOf r ≡ checkRecord b → Opened b n
+opened-as b {n = n} small e p = opening b (bytes-of b small) n (ap answerOf (sym e) ∙ p)
+
+-- in a good record
 
 module _ {b : List ℕ} {n : ℕ} (w : Opened b n) where
   pub field-out : (place i : ℕ) → place ≡ suc i → 8 ≤ i → refused 53 0 0 ≡ job.field b place
   unfolding fields
   field-out place i e h = sym (field-is w place ∙ numbered-out 6 (fields (w .meaning)) place i e h)
 
-  pub field-in : (place i : ℕ) → place ≡ suc i → i < 8 → lookupOf (nthItem b 6 i) ≡ job.field b place
+  pub field-in : (place i : ℕ) → place ≡ suc i → i < 8 → spanOf (nthItem b 6 i) ≡ job.field b place
   unfolding fields
   field-in place i e h = field-found b (w .meaning) (w .record-is) i h ∙ sym (field-is w place ∙ numbered-in 6 (fields (w .meaning)) place i e h)
 
@@ -61,23 +70,23 @@ module _ {b : List ℕ} {n : ℕ} (w : Opened b n) where
       sym (step-is w number ∙ numbered-out (stepsStart (w .meaning)) (map stepItem (w .meaning .steps)) number i e c)
 
   -- the last field is always found
-  last-is : lookupOf (nthItem b 6 7) ≡ good (partAt 6 (fields (w .meaning)) 7)
+  last-is : spanOf (nthItem b 6 7) ≡ good (partAt 6 (fields (w .meaning)) 7)
   last-is = field-found b (w .meaning) (w .record-is) 7 (omega arith)
 
-  pub last-found : (r : Lookup) → r ≡ nthItem b 6 7 → {x : Answer Found} → lookupOf r ≡ x
+  pub last-found : (r : Span) → r ≡ nthItem b 6 7 → {x : Answer Found} → spanOf r ≡ x
       → x ≡ good (part (6 + length (joined (take 7 (fields (w .meaning))))) (6 + length (joined (take 8 (fields (w .meaning))))))
   unfolding partAt
-  last-found r e p = sym p ∙ ap lookupOf e ∙ last-is
+  last-found r e p = sym p ∙ ap spanOf e ∙ last-is
 
-  pub step-in : (start end number i : ℕ) → FoundPart start end ≡ nthItem b 6 7 → number ≡ suc i → i < n → lookupOf (nthItem b (start + 6) i) ≡ job.step b number
+  pub step-in : (start end number i : ℕ) → At start end ≡ nthItem b 6 7 → number ≡ suc i → i < n → spanOf (nthItem b (start + 6) i) ≡ job.step b number
   unfolding partAt stepsStart
   step-in start end number i f e h =
-      let p : good (part start end) ≡ good (partAt 6 (fields (w .meaning)) 7) = ap lookupOf f ∙ last-is in
+      let p : good (part start end) ≡ good (partAt 6 (fields (w .meaning)) 7) = ap spanOf f ∙ last-is in
       let s : start ≡ 6 + length (joined (take 7 (fields (w .meaning)))) = cc in
       let at : start + 6 ≡ stepsStart (w .meaning) = omega arith in
       let c : i < length (w .meaning .steps) = omega (arith, w .count) in
       let d : i < length (map stepItem (w .meaning .steps)) = omega (arith, length-steps (w .meaning .steps)) in
-      ap (λ (k : ℕ). lookupOf (nthItem b k i)) at
+      ap (λ (k : ℕ). spanOf (nthItem b k i)) at
       ∙ step-found b (w .meaning) (w .record-is) i c
       ∙ sym (step-is w number ∙ numbered-in (stepsStart (w .meaning)) (map stepItem (w .meaning .steps)) number i e d)
 

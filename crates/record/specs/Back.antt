@@ -14,11 +14,12 @@ use Rattle.item.specs.Encode.{item, encode}
 use Rattle.item.specs.Size.{item-length, encode-long}
 use Rattle.item.specs.Decode.{_>>=_, Decoder, nothing}
 use Rattle.item.specs.Back.{header-item}
-use Rattle.value.specs.Sound.{sound}
+use Rattle.meaning.specs.Sound.{sound}
 use Rattle.value.specs.Levels.{tree-back}
-use Rattle.record.specs.Meaning.{Defaults, Step, Meaning, stepFields, builtInSteps}
-use Rattle.record.specs.Record.{joined, optional, expected, text, stepParts, stepItem, defaultsParts, defaultsItem, tagsItem, stepsItem, fields, recordOf}
-use Rattle.record.specs.Rules.{Each, Utf8, limit, StepRules, Rules, IsRecord}
+use Rattle.meaning.specs.Meaning.{Defaults, Step, Meaning, stepFields, builtInSteps}
+use Rattle.meaning.specs.Record.{joined, optional, expected, text, stepParts, stepItem, defaultsParts, defaultsItem, tagsItem, stepsItem, fields, recordOf}
+use Rattle.meaning.specs.Rules.{Each, limit, StepRules, Rules, IsRecord}
+use Rattle.utf8.specs.Utf8.{Utf8}
 use Rattle.record.specs.Read.{fieldOf, asText, asOptional, asFlag, asItems, asCommand, asExpect, content, inItem, many, all, stepIn, defaultsIn, restIn, meaningOf, meaningIn}
 
 -- lengths of four bytes

@@ -12,8 +12,8 @@ use Rattle.refusal.specs.Base.{if_then_else_, maybe}
 use Rattle.item.specs.Tree.{Items}
 use Rattle.item.specs.Decode.{_>>=_, nothing}
 use Rattle.value.specs.Walks.{Read}
-use Rattle.record.specs.Meaning.{Defaults, Step, Meaning}
-use Rattle.record.specs.Rules.{limit}
+use Rattle.meaning.specs.Meaning.{Defaults, Step, Meaning}
+use Rattle.meaning.specs.Rules.{limit}
 use Rattle.record.specs.Read.{fieldOf, asText, asOptional, asFlag, asItems, asCommand, asExpect, content, inItem, all, stepIn, defaultsIn, restIn, meaningOf, meaningIn}
 use Rattle.record.specs.Agree.{Held, isSome, counted, areTexts, areDefaults, isStep, stepsIn, restSteps, meaningSteps}
 use Rattle.record.specs.Views.{some-is, none-is}

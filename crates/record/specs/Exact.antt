@@ -11,15 +11,16 @@ use Rattle.refusal.specs.Base.{oneOf}
 use Rattle.refusal.specs.Tools.{chosen}
 use Rattle.item.specs.Tree.{Yaml, Items, Entries, null, bool, int, str, seq, dict, levels}
 use Rattle.item.specs.Encode.{item, encode}
-use Rattle.item.specs.Decode.{Decoder, header, nothing}
+use Rattle.item.specs.Decode.{Decoder, header}
 use Rattle.item.specs.Exact.{Bytes, got, none≢, header-inv, nothing-inv, decode-exact}
-use Rattle.value.specs.Sound.{sound}
+use Rattle.meaning.specs.Sound.{sound}
 use Rattle.value.specs.Tree.{tree}
 use Rattle.value.specs.Turns.{taken}
 use Rattle.value.specs.Levels.{decode-low}
-use Rattle.record.specs.Meaning.{Defaults, Step, Meaning, stepFields, builtInSteps}
-use Rattle.record.specs.Record.{joined, optional, expected, text, stepParts, stepItem, defaultsParts, defaultsItem, tagsItem, stepsItem, fields, recordOf}
-use Rattle.record.specs.Rules.{Each, Utf8, limit, StepRules, Rules, IsRecord}
+use Rattle.meaning.specs.Meaning.{Defaults, Step, Meaning, stepFields, builtInSteps}
+use Rattle.meaning.specs.Record.{joined, optional, expected, text, stepParts, stepItem, defaultsParts, defaultsItem, tagsItem, stepsItem, fields, recordOf}
+use Rattle.meaning.specs.Rules.{Each, limit, StepRules, Rules, IsRecord}
+use Rattle.utf8.specs.Utf8.{Utf8}
 use Rattle.record.specs.Read.{fieldOf, asText, asOptional, asFlag, asItems, asCommand, asExpect, content, inItem, many, all, stepIn, defaultsIn, restIn, meaningOf, meaningIn}
 
 -- what was read stands in front, as it is written, and is good

@@ -2,7 +2,7 @@
 use mathlib.Core.Path.{_≡_, refl}
 use Prim.Native.Nat.{ℕ}
 use mathlib.Core.List.{List, [], _∷_, _++_}
-use mathlib.Core.Bool.{true, false}
+use mathlib.Core.Bool.{false}
 use mathlib.Core.Option.{Option, none, some}
 use lib.ListN.{length}
 use lib.IntN.{pos}
@@ -12,11 +12,10 @@ use Rattle.item.specs.Tree.{Entries, null, int, end, done, pair}
 use Rattle.item.specs.Tree as item
 use Rattle.item.specs.Encode.{Encode-open}
 use Rattle.item.specs.Decode.{Decode-open}
-use Rattle.value.specs.Sound.{Sound-open}
+use Rattle.meaning.specs.Sound.{Sound-open}
 use Rattle.value.specs.Tree as value
-use Rattle.record.specs.Meaning.{Meaning, stepFields, builtInSteps}
-use Rattle.record.specs.Record.{recordOf, Record-open}
-use Rattle.record.specs.Rules.{rules, Rules-open}
+use Rattle.meaning.specs.Meaning.{Meaning, stepFields, builtInSteps}
+use Rattle.meaning.specs.Record.{recordOf, Record-open}
 use Rattle.record.specs.Read.{Read-open}
 use Rattle.record.specs.Jobs.{part, checkRecord, field, step, Jobs-open}
 
@@ -37,7 +36,7 @@ unfoldable striking : Meaning
 striking = noon (bytes "strike") none
 
 unfoldable open-all : Unit {0}
-unfolding noon striking Base-open Utf8-open item.Tree-open Encode-open Decode-open Sound-open value.Tree-open stepFields builtInSteps Record-open Rules-open Read-open Jobs-open
+unfolding noon striking Base-open Utf8-open item.Tree-open Encode-open Decode-open Sound-open value.Tree-open stepFields builtInSteps Record-open Read-open Jobs-open
 open-all = tt
 
 -- drumread's record of 133 bytes, its one step, its first field, and what stands outside
@@ -81,12 +80,3 @@ beside-delay = refl
 key-twice : checkRecord (recordOf (noon (bytes "strike") (some (pair (bytes "a") null (pair (bytes "a") null done))))) ≡ refused 40 0 0
 unfolding open-all
 key-twice = refl
-
--- the test of the rules says the same
-tested : rules striking ≡ true
-unfolding open-all
-tested = refl
-
-tested-delay : rules (noon (bytes "delay") (some done)) ≡ false
-unfolding open-all
-tested-delay = refl

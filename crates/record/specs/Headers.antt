@@ -12,8 +12,7 @@ use Rattle.refusal.specs.Base.{if_then_else_}
 use Rattle.item.specs.Decode.{_>>=_, header}
 use Rattle.item.specs.Places.{headerAt}
 use Rattle.item.specs.declared.Header.the-variants.{Item}
-use Rattle.keys.specs.Laws.{inside}
-use Rattle.value.specs.Turns.{header-item}
+use Rattle.item.proofs.Headers.{spans, header-item}
 use Rattle.record.specs.Read.{content}
 use Rattle.record.specs.Jobs.{partOf}
 use Rattle.record.specs.Agree.{Held}
@@ -44,7 +43,7 @@ module _ (k : ℕ) (s : List ℕ) (at : ℕ) {kind from to : ℕ} (h : Item kind
   pub content-here : kind ≡ k → Held k s at to
   unfolding content _>>=_ if_then_else_
   content-here e =
-      let i = inside s at h in
+      let i = spans s at h in
       record {
         is = rw (header-item s at h, eq-eqb kind k e, i .start);
         forward = omega (arith, i .start, i .order);

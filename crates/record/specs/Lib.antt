@@ -1,6 +1,3 @@
-pub mod Meaning
-pub mod Record
-pub mod Rules
 pub mod Read
 pub mod Jobs
 pub mod Agree
@@ -12,6 +9,5 @@ pub mod Chains
 pub mod Lookups
 pub mod Headers
 pub mod Answers
-pub mod Decide
 pub mod Theorems
 pub mod Examples

@@ -8,63 +8,22 @@ use lib.ListN.{length, take, drop, length-append, length-drop}
 use lib.Seq.{drop-at, drop-drop}
 use borrow.Author.Tests.{lt-ltb, le-ltb}
 use Rattle.refusal.specs.Base.{Answer, good, refused, _>>=_, _>>_, given, ensure}
-use Rattle.item.specs.Tree.{Yaml, null, bool, int, str, seq, dict}
-use Rattle.item.specs.Encode.{le, flag, twos, head, item, encode}
+use Rattle.item.specs.Tree.{Yaml, str, seq}
+use Rattle.item.specs.Encode.{head, item, encode, kindOf}
 use Rattle.item.specs.Size.{head-length, item-length}
 use Rattle.item.specs.Places.{headerAt, item-at}
 use Rattle.item.specs.Exact.{Bytes}
-use Rattle.item.specs.declared.Header.{Header}
-use Rattle.item.specs.declared.Header.the-variants.{Item, Cut, PastEnd}
-use Rattle.keys.specs.Laws.{inside}
-use Rattle.record.specs.Meaning.{Step, Meaning}
-use Rattle.record.specs.Record.{joined, text, stepItem, defaultsItem, tagsItem, stepsItem, fields, recordOf}
-use Rattle.record.specs.Rules.{Each, limit, IsRecord}
+use Rattle.item.specs.declared.Header.the-variants.{Item}
+use Rattle.meaning.specs.Meaning.{Step, Meaning}
+use Rattle.meaning.specs.Record.{joined, text, stepItem, defaultsItem, tagsItem, stepsItem, fields, recordOf}
+use Rattle.meaning.specs.Rules.{Each, limit, IsRecord}
 use Rattle.record.specs.Read.{meaningIn}
 use Rattle.record.specs.Jobs as job
-use Rattle.record.specs.Jobs.{nothing, part, opened, checkRecord, partAt, numbered, stepsStart, lookupOf}
+use Rattle.record.specs.Jobs.{part, opened, checkRecord, partAt, numbered, stepsStart, spanOf}
 use Rattle.record.specs.Exact.{meaning-exact}
-use Rattle.record.specs.Agree.{foundAt, behind, nthItem}
-use Rattle.record.specs.declared.Lookup.the-variants.{Found as FoundPart, Nothing}
-
--- ---- one more item
-
-module _ (s : List ℕ) (at : ℕ) {kind from to : ℕ} (h : Item kind from to ≡ headerAt s at) where
-  pub nth-here : FoundPart at to ≡ nthItem s at 0
-  unfolding nthItem foundAt
-  nth-here = ap (foundAt at) h
-
-  pub nth-on : (skip left : ℕ) → skip ≡ suc left → nthItem s at skip ≡ nthItem s to left
-  unfolding nthItem behind
-  nth-on skip left e = rw e (ap (λ (x : Header). behind x (λ to. nthItem s to left)) (sym h))
-
-pub nth-lost : (s : List ℕ) (at : ℕ) → foundAt at (headerAt s at) ≡ Nothing → (skip : ℕ) → Nothing ≡ nthItem s at skip
-unfolding nthItem foundAt behind
-nth-lost s at h zero = sym h
-nth-lost s at h (suc skip) = go (headerAt s at) h
-  where
-    go : (x : Header) → foundAt at x ≡ Nothing → Nothing ≡ behind x (λ to. nthItem s to skip)
-    go (Item kind from to) e = let z : _≡_ {A = ℕ} 0 1 = cc in absurd (omega arith)
-    go Cut e = refl
-    go PastEnd e = refl
-
--- a found item has a header in the bytes
-pub found-fits : (s : List ℕ) (skip at : ℕ) {start end : ℕ} → FoundPart start end ≡ nthItem s at skip → start + 6 ≤ length s
-unfolding nthItem foundAt behind
-found-fits s zero at {start} {end} e = go (headerAt s at) refl e
-  where
-    go : (x : Header) → x ≡ headerAt s at → FoundPart start end ≡ foundAt at x → start + 6 ≤ length s
-    go (Item kind from to) h e =
-        let i = inside s at h in
-        let a : start ≡ at = cc in
-        omega (arith, i .start, i .order, i .fits)
-    go Cut h e = let z : _≡_ {A = ℕ} 0 1 = cc in absurd (omega arith)
-    go PastEnd h e = let z : _≡_ {A = ℕ} 0 1 = cc in absurd (omega arith)
-found-fits s (suc skip) at {start} {end} e = go (headerAt s at) (λ to. found-fits s skip to {start = start} {end = end}) e
-  where
-    go : (x : Header) → ((to : ℕ) → FoundPart start end ≡ nthItem s to skip → start + 6 ≤ length s) → FoundPart start end ≡ behind x (λ to. nthItem s to skip) → start + 6 ≤ length s
-    go (Item kind from to) more e = more to e
-    go Cut more e = let z : _≡_ {A = ℕ} 0 1 = cc in absurd (omega arith)
-    go PastEnd more e = let z : _≡_ {A = ℕ} 0 1 = cc in absurd (omega arith)
+use Rattle.entries.specs.Entries.{content, spanAt, nthItem}
+use Rattle.entries.proofs.Standing.{value-item, kind-small}
+use Rattle.entries.proofs.Counting.{nth-on}
 
 -- ---- items one behind another
 
@@ -79,13 +38,7 @@ an-item : (k : ℕ) (c : List ℕ) → k < 256 ^ 2 → OneItem (item k c)
 an-item k c h = record { kind = k; content = c; small = h; is = refl }
 
 tree-item : (y : Yaml) → OneItem (encode y)
-unfolding encode
-tree-item null = an-item 0 [] (omega arith)
-tree-item (bool b) = an-item 1 (flag b ∷ []) (omega arith)
-tree-item (int z) = an-item 2 (le 8 (twos z)) (omega arith)
-tree-item (str t) = an-item 3 t (omega arith)
-tree-item (seq ys) = an-item 4 (encode ys) (omega arith)
-tree-item (dict es) = an-item 5 (encode es) (omega arith)
+tree-item y = record { kind = kindOf y; content = content y; small = kind-small y; is = value-item y }
 
 fields-items : (m : Meaning) → Each OneItem (fields m)
 unfolding fields text tagsItem defaultsItem stepsItem
@@ -112,8 +65,8 @@ module _ (s r : List ℕ) where
       ap (λ (k : ℕ). drop k s) n
       ∙ skip-parts ps i (at + length p) (sym (drop-drop (length p) at s) ∙ ap (drop (length p)) (e ∙ append-assoc p (joined ps) r) ∙ drop-at p (joined ps ++ r) (length p) refl)
 
-  pub nth-part : (ps : List (List ℕ)) → Each OneItem ps → length s ≤ limit → (i at : ℕ) → at ≤ length s → drop at s ≡ joined ps ++ r → i < length ps → lookupOf (nthItem s at i) ≡ good (partAt at ps i)
-  unfolding joined partAt
+  pub nth-part : (ps : List (List ℕ)) → Each OneItem ps → length s ≤ limit → (i at : ℕ) → at ≤ length s → drop at s ≡ joined ps ++ r → i < length ps → spanOf (nthItem s at i) ≡ good (partAt at ps i)
+  unfolding joined partAt nthItem spanAt
   nth-part [] g small i at h e n = absurd (omega arith)
   nth-part (p ∷ ps) g small i at h e n = go i n (λ j to. nth-part ps (g .1) small j to)
     where
@@ -135,19 +88,19 @@ module _ (s r : List ℕ) where
           ap (λ (k : ℕ). drop k s) n ∙ sym (drop-drop (length p) at s) ∙ ap (drop (length p)) (e ∙ append-assoc p (joined ps) r) ∙ drop-at p (joined ps ++ r) (length p) refl
 
       go : (i : ℕ) → i < suc (length ps)
-          → ((j to : ℕ) → to ≤ length s → drop to s ≡ joined ps ++ r → j < length ps → lookupOf (nthItem s to j) ≡ good (part (to + length (joined (take j ps))) (to + length (joined (take (suc j) ps)))))
-          → lookupOf (nthItem s at i) ≡ good (part (at + length (joined (take i (p ∷ ps)))) (at + length (joined (take (suc i) (p ∷ ps)))))
+          → ((j to : ℕ) → to ≤ length s → drop to s ≡ joined ps ++ r → j < length ps → spanOf (nthItem s to j) ≡ good (part (to + length (joined (take j ps))) (to + length (joined (take (suc j) ps)))))
+          → spanOf (nthItem s at i) ≡ good (part (at + length (joined (take i (p ∷ ps)))) (at + length (joined (take (suc i) (p ∷ ps)))))
       go zero n more =
           let a : at ≡ at + 0 = omega arith in
           let b : at + 6 + length (o .content) ≡ at + length (p ++ []) = omega (arith, long, length-append p []) in
-          ap lookupOf (sym (nth-here s at (sym head-is))) ∙ ap good (ap (λ (k : ℕ). part k (at + 6 + length (o .content))) a ∙ ap (λ (k : ℕ). part (at + 0) k) b)
+          ap spanOf (ap (spanAt at) head-is) ∙ ap good (ap (λ (k : ℕ). part k (at + 6 + length (o .content))) a ∙ ap (λ (k : ℕ). part (at + 0) k) b)
       go (suc i) n more =
           let to = at + 6 + length (o .content) in
           let q : length (p ++ joined (take i ps)) ≡ length p + length (joined (take i ps)) = length-append p (joined (take i ps)) in
           let q′ : length (p ++ joined (take (suc i) ps)) ≡ length p + length (joined (take (suc i) ps)) = length-append p (joined (take (suc i) ps)) in
           let a : to + length (joined (take i ps)) ≡ at + length (p ++ joined (take i ps)) = omega (arith, long) in
           let b : to + length (joined (take (suc i) ps)) ≡ at + length (p ++ joined (take (suc i) ps)) = omega (arith, long) in
-          ap lookupOf (nth-on s at (sym head-is) (suc i) i refl)
+          ap spanOf (nth-on s at (sym (ap (spanAt at) head-is)) (suc i) i refl)
           ∙ more i to (omega (arith, long, size)) next (omega arith)
           ∙ ap good (ap (λ (k : ℕ). part k (to + length (joined (take (suc i) ps)))) a ∙ ap (λ (k : ℕ). part (at + length (p ++ joined (take i ps))) k) b)
 
@@ -166,7 +119,7 @@ module _ (b : List ℕ) (m : Meaning) (w : IsRecord b m) where
   unfolding recordOf
   header-fits = omega (arith, ap length (sym (w .written)), item-length 16 (joined (fields m)))
 
-  pub field-found : (i : ℕ) → i < 8 → lookupOf (nthItem b 6 i) ≡ good (partAt 6 (fields m) i)
+  pub field-found : (i : ℕ) → i < 8 → spanOf (nthItem b 6 i) ≡ good (partAt 6 (fields m) i)
   unfolding fields
   field-found i h = nth-part b [] (fields m) (fields-items m) small i 6 header-fits fields-start h
 
@@ -187,7 +140,7 @@ module _ (b : List ℕ) (m : Meaning) (w : IsRecord b m) where
       let c = joined (map stepItem (m .steps)) in
       omega (arith, sym (length-drop (6 + length (joined (take 7 (fields m)))) b) ∙ ap length last-field ∙ length-append (item 18 c) [] ∙ ap (λ (k : ℕ). k + 0) (item-length 18 c))
 
-  pub step-found : (i : ℕ) → i < length (m .steps) → lookupOf (nthItem b (stepsStart m) i) ≡ good (partAt (stepsStart m) (map stepItem (m .steps)) i)
+  pub step-found : (i : ℕ) → i < length (m .steps) → spanOf (nthItem b (stepsStart m) i) ≡ good (partAt (stepsStart m) (map stepItem (m .steps)) i)
   step-found i h = nth-part b [] (map stepItem (m .steps)) (steps-items (m .steps)) small i (stepsStart m) steps-fit steps-start (subst (λ (n : ℕ). i < n) (sym (length-steps (m .steps))) h)
 
 -- ---- the answers

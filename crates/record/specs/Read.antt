@@ -10,8 +10,8 @@ use Rattle.refusal.specs.Base.{if_then_else_, oneOf}
 use Rattle.item.specs.Tree.{Yaml, Items, Entries, null, bool, int, str, seq, dict}
 use Rattle.item.specs.Decode.{_>>=_, Decoder, header, nothing}
 use Rattle.value.specs.Tree.{tree}
-use Rattle.record.specs.Meaning.{Defaults, Step, Meaning, stepFields, builtInSteps}
-use Rattle.record.specs.Rules.{limit}
+use Rattle.meaning.specs.Meaning.{Defaults, Step, Meaning, stepFields, builtInSteps}
+use Rattle.meaning.specs.Rules.{limit}
 
 -- ---- one field
 

@@ -11,9 +11,9 @@ use Rattle.refusal.specs.Base.{Answer, good, refused, _>>=_, given}
 use Rattle.item.specs.Encode.{item}
 use Rattle.item.specs.Size.{item-length}
 use Rattle.item.specs.Exact.{Bytes}
-use Rattle.record.specs.Meaning.{Meaning}
-use Rattle.record.specs.Record.{joined, stepItem, stepsItem, fields, recordOf}
-use Rattle.record.specs.Rules.{limit, IsRecord}
+use Rattle.meaning.specs.Meaning.{Meaning}
+use Rattle.meaning.specs.Record.{joined, stepItem, stepsItem, fields, recordOf}
+use Rattle.meaning.specs.Rules.{limit, IsRecord}
 use Rattle.record.specs.Read.{meaningOf, meaningIn}
 use Rattle.record.specs.Jobs.{Found, nothing, part, opened, checkRecord, partAt, stepsStart, field, step, partOf}
 use Rattle.record.specs.Exact.{meaning-exact}

@@ -12,9 +12,9 @@ use borrow.Author.Tests.{eqb-true}
 use Rattle.refusal.specs.Base.{if_then_else_, maybe, oneOf}
 use Rattle.refusal.specs.Tools.{chosen}
 use Rattle.item.specs.Tree.{Yaml, null, bool, int, str, seq, dict}
-use Rattle.item.specs.Encode.{item, head, encode}
+use Rattle.item.specs.Encode.{item, head, encode, kindOf}
 use Rattle.item.specs.Size.{head-length}
-use Rattle.item.specs.Decode.{_>>=_, Decoder, header, nothing, unflag, unint, decodeItems, decodeEntries, contentOf, node}
+use Rattle.item.specs.Decode.{_>>=_, Decoder, header, unflag, unint, decodeItems, decodeEntries, contentOf, node}
 use Rattle.item.specs.Exact.{Bytes, got, none≢, nothing-inv, bytes-drop}
 use Rattle.value.specs.Tree.{tree, inside}
 use Rattle.value.specs.Contents.{decode-node}
@@ -22,11 +22,11 @@ use Rattle.value.specs.Turns.{taken}
 use Rattle.value.specs.Walks.{Read, Walks}
 use Rattle.value.specs.declared.End.{End}
 use Rattle.value.specs.declared.End.the-variants.{At, Nowhere}
-use Rattle.record.specs.Meaning.{stepFields, builtInSteps}
-use Rattle.record.specs.Record.{text}
+use Rattle.meaning.specs.Meaning.{stepFields, builtInSteps}
+use Rattle.meaning.specs.Record.{text}
 use Rattle.record.specs.Read.{fieldOf, asText, asOptional, asFlag, asItems, asCommand, asExpect}
 use Rattle.record.specs.Exact.{text-reads}
-use Rattle.record.specs.Agree.{kindOf, ofKind, expectKind, isSome}
+use Rattle.record.specs.Agree.{ofKind, expectKind, isSome}
 
 -- ---- the kind of a tree
 

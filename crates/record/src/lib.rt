@@ -3,16 +3,17 @@
 ghost use mathlib.Core.Path.{_≡_};
 ghost use Prim.Native.Nat.{_≤_};
 ghost use lib.ListN.{length, drop};
-ghost use Rattle.refusal.specs.Base.{oneOf};
 ghost use Rattle.value.specs.Walks.{Walks};
-ghost use Rattle.record.specs.Meaning.{stepFields, builtInSteps};
 ghost use Rattle.record.specs.Read.{fieldOf};
 ghost use Rattle.record.specs.Jobs as definition;
-ghost use Rattle.record.specs.Jobs.{partOf, answerOf, lookupOf};
-ghost use Rattle.record.specs.Agree.{ofKind, expectKind, Holds, areTexts, areDefaults, isStep, stepsIn, restSteps, meaningSteps, countOf, nthItem};
+ghost use Rattle.record.specs.Jobs.{partOf, answerOf, lookupOf, spanOf};
+ghost use Rattle.record.specs.Agree.{ofKind, expectKind, Holds, areTexts, areDefaults, isStep, stepsIn, restSteps, meaningSteps, countOf};
+use entries::Span;
+use entries::nth_item;
 use item::Header;
 use item::header_at;
-use item::same_bytes;
+use meaning::is_built_in;
+use meaning::is_step_field;
 use refusal::Refusal;
 use value::End;
 use value::value_at;
@@ -37,42 +38,6 @@ pub enum Lookup {
 enum Count {
     Steps(usize),
     Bad,
-}
-
-pub fn is_step_field(key: &[u8]) -> bool
-    ensures { λ r. ⌜ r ≡ oneOf (now (key .entry)) stepFields ⌝ }
-{
-    if same_bytes(key, b"name") {
-        return true;
-    }
-    if same_bytes(key, b"id") {
-        return true;
-    }
-    if same_bytes(key, b"timeout") {
-        return true;
-    }
-    if same_bytes(key, b"continue_on_error") {
-        return true;
-    }
-    same_bytes(key, b"expect")
-}
-
-pub fn is_built_in(key: &[u8]) -> bool
-    ensures { λ r. ⌜ r ≡ oneOf (now (key .entry)) builtInSteps ⌝ }
-{
-    if same_bytes(key, b"repeat") {
-        return true;
-    }
-    if same_bytes(key, b"set") {
-        return true;
-    }
-    if same_bytes(key, b"delay") {
-        return true;
-    }
-    if same_bytes(key, b"expect_not") {
-        return true;
-    }
-    same_bytes(key, b"ui.expect")
 }
 
 // The kind that `expect` may have beside a command, other than null.
@@ -288,35 +253,14 @@ pub fn check_record(record: &[u8]) -> RecordAnswer
     }
 }
 
-// The item that stands `skip` items behind the one at `from`.
-fn nth(s: &[u8], from: usize, skip: usize) -> Lookup
-    ensures { λ r. ⌜ r ≡ nthItem (now (s .entry)) from skip ⌝ }
+// What was found among items.
+fn found(span: Span) -> Lookup
+    ensures { λ r. ⌜ lookupOf r ≡ spanOf span ⌝ }
 {
-    let mut at = from;
-    let mut left = skip;
-    while left > 0 {
-        let head = header_at(s, at);
-        let Header::Item {
-            kind: _,
-            from: _,
-            to,
-        } = head
-        else {
-            return Lookup::Nothing;
-        };
-        at = to;
-        left -= 1;
+    match span {
+        Span::At { start, end } => Lookup::Found { start, end },
+        Span::Nowhere => Lookup::Nothing,
     }
-    let head = header_at(s, at);
-    let Header::Item {
-        kind: _,
-        from: _,
-        to: end,
-    } = head
-    else {
-        return Lookup::Nothing;
-    };
-    Lookup::Found { start: at, end }
 }
 
 // The item of the field at this place, from 1 to 8 in the order of kind 16.
@@ -332,7 +276,7 @@ pub fn field(record: &[u8], place: usize) -> Lookup
             if place > 8 {
                 return Lookup::Refused(Refusal::OutOfRange);
             }
-            nth(record, 6, place - 1)
+            found(nth_item(record, 6, place - 1))
         }
     }
 }
@@ -350,10 +294,9 @@ pub fn step(record: &[u8], number: usize) -> Lookup
             if number > steps {
                 return Lookup::Refused(Refusal::OutOfRange);
             }
-            match nth(record, 6, 7) {
-                Lookup::Found { start, end: _ } => nth(record, start + 6, number - 1),
-                Lookup::Nothing => Lookup::Nothing,
-                Lookup::Refused(e) => Lookup::Refused(e),
+            match nth_item(record, 6, 7) {
+                Span::At { start, end: _ } => found(nth_item(record, start + 6, number - 1)),
+                Span::Nowhere => Lookup::Nothing,
             }
         }
     }

@@ -4,7 +4,7 @@ use Prim.Native.Nat.{ℕ}
 use native.Mathlib.Omega.{arith}
 use mathlib.Core.Bool.{Bool, true, false}
 use mathlib.Core.Option.{Option, none, some}
-use Rattle.refusal.specs.Base.{Answer, good, refused, _>>=_, _>>_, if_then_else_, maybe, given}
+use Rattle.refusal.specs.Base.{Answer, good, refused, _>>=_, _>>_, if_then_else_, maybe, given, ensure}
 
 pub good-inj : {A : Type 0} (a b : A) → good a ≡ good b → a ≡ b
 good-inj a b p = cc
@@ -39,6 +39,12 @@ pub gave : {A X : Type 0} (o : Option A) (n l s : ℕ) (a : A) → given o n l s
 unfolding given
 gave none n l s a e k = refused≢good a n l s e
 gave (some b) n l s a e k = k (ap some (good-inj b a e))
+
+-- a test that was asked for
+pub ensured : (t : Bool) (n l s : ℕ) (x : Unit {0}) → ensure t n l s ≡ good x → t ≡ true
+unfolding ensure
+ensured true n l s x e = refl
+ensured false n l s x e = refused≢good x n l s e
 
 -- two binds, or two choices, that agree where it matters
 pub bind-cong : {A B : Type 0} (a : Answer A) (f g : A → Answer B) → ((x : A) → a ≡ good x → f x ≡ g x) → (a >>= f) ≡ (a >>= g)

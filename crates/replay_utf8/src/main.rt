@@ -1,5 +1,6 @@
 // Runs utf8 over every code point, over sequences of boundary bytes, and over the parts of sequences of white and other pieces,
 // and prints what it finds: where answers change, how many are accepted, and hashes of all answers.
+ghost use Prim.Native.Nat.{_+_, _≤_};
 use libc::STDOUT_FILENO;
 
 // Bytes at which RFC 3629's ranges begin and end, with their neighbours.
@@ -30,23 +31,23 @@ const EDGES: [u8; 24] = [
     0xff,
 ];
 
-// White space, other characters, and characters that are cut off, each as its bytes from the highest on.
+// White space, other characters, and characters that are cut off, each as its bytes from the lowest on.
 const PIECES: [u32; 17] = [
     0x61,
     0x20,
     0x09,
-    0xc2a0,
-    0xc285,
-    0xe19a80,
-    0xe28080,
-    0xe280a8,
-    0xe2819f,
-    0xe38080,
-    0xc3a9,
-    0xe2808b,
+    0xa0c2,
+    0x85c2,
+    0x809ae1,
+    0x8080e2,
+    0xa880e2,
+    0x9f81e2,
+    0x8080e3,
+    0xa9c3,
+    0x8b80e2,
     0xc2,
     0xe2,
-    0xe280,
+    0x80e2,
     0x80,
     0xa0,
 ];
@@ -55,62 +56,56 @@ fn low(n: u32) -> u8 {
     (n % 256) as u8
 }
 
-fn put(buf: &mut [u8; 16], at: usize, b: u8) -> usize {
-    if at < 16 {
-        buf[at] = b;
-        return at + 1;
-    }
-    at
+fn tail(c: u32) -> u8 {
+    low(0x80 + c % 64)
 }
 
-// A code point by the bit layout of RFC 3629, section 3, surrogates and numbers above 10FFFF too; how many bytes it has.
-fn encode(buf: &mut [u8; 16], c: u32) -> usize {
+// A code point by the bit layout of RFC 3629, section 3, surrogates and numbers above 10FFFF too.
+fn encode(c: u32) -> [u8; 4] {
     if c < 0x80 {
-        return put(buf, 0, low(c));
+        return [low(c), 0, 0, 0];
     }
     if c < 0x800 {
-        put(buf, 0, low(0xc0 + c / 64));
-        return put(buf, 1, low(0x80 + c % 64));
+        return [low(0xc0 + c / 64), tail(c), 0, 0];
     }
     if c < 0x10000 {
-        put(buf, 0, low(0xe0 + c / 4096));
-        put(buf, 1, low(0x80 + c / 64 % 64));
-        return put(buf, 2, low(0x80 + c % 64));
+        return [low(0xe0 + c / 4096), tail(c / 64), tail(c), 0];
     }
-    put(buf, 0, low(0xf0 + c / 262144 % 8));
-    put(buf, 1, low(0x80 + c / 4096 % 64));
-    put(buf, 2, low(0x80 + c / 64 % 64));
-    put(buf, 3, low(0x80 + c % 64))
+    [
+        low(0xf0 + c / 262144 % 8),
+        tail(c / 4096),
+        tail(c / 64),
+        tail(c),
+    ]
 }
 
-fn start_is_utf8(s: &[u8], n: usize) -> bool {
-    if n <= s.len() {
-        return utf8::is_utf8(&s[0..n]);
+// How many bytes it has.
+fn size(c: u32) -> usize
+    ensures { λ r. ⌜ r ≤ 4 ⌝ }
+{
+    if c < 0x80 {
+        return 1;
     }
-    false
-}
-
-fn accepted(buf: &[u8; 16], n: usize) -> bool {
-    start_is_utf8(buf, n)
-}
-
-fn accepts(c: u32) -> bool {
-    let mut buf = [0u8; 16];
-    let n = encode(&mut buf, c);
-    accepted(&buf, n)
-}
-
-fn white(buf: &[u8; 16], n: usize) -> bool {
-    if n <= 16 {
-        return utf8::white_at(buf, 0, n) == n;
+    if c < 0x800 {
+        return 2;
     }
-    false
+    if c < 0x10000 {
+        return 3;
+    }
+    4
 }
 
-fn is_white(c: u32) -> bool {
-    let mut buf = [0u8; 16];
-    let n = encode(&mut buf, c);
-    white(&buf, n)
+fn accepted(bytes: &[u8; 4], n: usize) -> bool
+    requires { ⌜ n ≤ 4 ⌝ }
+{
+    let all: &[u8] = bytes;
+    utf8::is_utf8(&all[0..n])
+}
+
+fn white(bytes: &[u8; 4], n: usize) -> bool
+    requires { ⌜ n ≤ 4 ⌝ }
+{
+    utf8::white_at(bytes, 0, n) == n
 }
 
 fn say(text: &[u8], n: u64) {
@@ -136,16 +131,6 @@ fn say_change(is: bool, was: bool, c: u32) {
     }
 }
 
-fn say_if_white(c: u32) {
-    if is_white(c) {
-        say_hex(b"white ", c);
-    }
-}
-
-fn mix(hash: u64, n: u64) -> u64 {
-    (hash % 0x100000000 * 31 + n % 0x100000000) % 0x100000000
-}
-
 fn bit(b: bool) -> u64 {
     if b { 1 } else { 0 }
 }
@@ -155,7 +140,7 @@ fn say_runs() -> u64 {
     let mut was = false;
     let mut n: u64 = 0;
     for c in 0u32..0x120000 {
-        let is = accepts(c);
+        let is = accepted(&encode(c), size(c));
         say_change(is, was, c);
         was = is;
         n = std::num::wrapping_add_u64(n, bit(is));
@@ -165,7 +150,9 @@ fn say_runs() -> u64 {
 
 fn say_whites() {
     for c in 0u32..0x120000 {
-        say_if_white(c);
+        if white(&encode(c), size(c)) {
+            say_hex(b"white ", c);
+        }
     }
 }
 
@@ -174,81 +161,85 @@ fn edge(k: usize) -> u8 {
 }
 
 // The sequence of `len` boundary bytes whose number is `k`, the first byte counting fastest.
-fn edges(k: usize, len: usize) -> bool {
-    let mut buf = [0u8; 16];
-    put(&mut buf, 0, edge(k));
-    put(&mut buf, 1, edge(k / 24));
-    put(&mut buf, 2, edge(k / 576));
-    put(&mut buf, 3, edge(k / 13824));
-    accepted(&buf, len)
+fn edges(k: usize, len: usize) -> u64
+    requires { ⌜ len ≤ 4 ⌝ }
+{
+    bit(accepted(
+        &[edge(k), edge(k / 24), edge(k / 576), edge(k / 13824)],
+        len,
+    ))
 }
 
-fn count_edges(len: usize, total: usize) -> u64 {
+fn mix(hash: u64, n: u64) -> u64 {
+    (hash % 0x100000000 * 31 + n % 0x100000000) % 0x100000000
+}
+
+fn say_edges(len: usize, total: usize)
+    requires { ⌜ len ≤ 4 ⌝ }
+{
     let mut n: u64 = 0;
-    for k in 0..total {
-        n = std::num::wrapping_add_u64(n, bit(edges(k, len)));
-    }
-    n
-}
-
-fn hash_edges(len: usize, total: usize) -> u64 {
     let mut hash: u64 = 0;
     for k in 0..total {
-        hash = mix(hash, bit(edges(k, len)));
+        let b = edges(k, len);
+        n = std::num::wrapping_add_u64(n, b);
+        hash = mix(hash, b);
     }
-    hash
+    say(b"sequences of boundary bytes accepted ", n);
+    say(b"hash ", hash);
 }
 
-fn say_edges(len: usize, total: usize) {
-    say(
-        b"sequences of boundary bytes accepted ",
-        count_edges(len, total),
-    );
-    say(b"hash ", hash_edges(len, total));
-}
-
-fn put_piece(buf: &mut [u8; 16], at: usize, k: usize) -> usize {
-    let piece = PIECES[k % 17];
+fn width(piece: u32) -> usize
+    ensures { λ r. ⌜ r ≤ 3 ⌝ }
+{
     if piece < 0x100 {
-        return put(buf, at, low(piece));
+        return 1;
     }
     if piece < 0x10000 {
-        let next = put(buf, at, low(piece / 256));
-        return put(buf, next, low(piece));
+        return 2;
     }
-    let second = put(buf, at, low(piece / 65536));
-    let third = put(buf, second, low(piece / 256));
-    put(buf, third, low(piece))
+    3
+}
+
+// Behind a short piece zeros are put too. The next place.
+fn put_piece(bytes: &mut [u8; 16], at: usize, k: usize) -> usize
+    requires { ⌜ at ≤ 13 ⌝ }
+    ensures { λ r. ⌜ r ≤ at + 3 ⌝ }
+{
+    let piece = PIECES[k % 17];
+    bytes[at] = low(piece);
+    bytes[at + 1] = low(piece / 256);
+    bytes[at + 2] = low(piece / 65536);
+    at + width(piece)
 }
 
 // The two places of a trimmed part, in one number.
-fn places(buf: &[u8; 16], from: usize, to: usize) -> u64 {
-    if from <= to {
-        if to <= 16 {
-            let start = utf8::trim_start(buf, from, to);
-            let end = utf8::trim_end(buf, from, to);
-            return (start % 256 * 256 + end % 256) as u64;
-        }
+fn places(bytes: &[u8; 16], from: usize, to: usize) -> u64
+    requires { ⌜ to ≤ 16 ⌝ }
+{
+    if from > to {
+        return 0;
     }
-    0
+    let start = utf8::trim_start(bytes, from, to);
+    let end = utf8::trim_end(bytes, from, to);
+    (start % 256 * 256 + end % 256) as u64
 }
 
 // Every part of the 16 bytes, also one that cuts a character off.
-fn hash_parts(buf: &[u8; 16], hash: u64) -> u64 {
+fn hash_parts(bytes: &[u8; 16], hash: u64) -> u64 {
     let mut h = hash;
     for k in 0..289usize {
-        h = mix(h, places(buf, k / 17, k % 17));
+        h = mix(h, places(bytes, k / 17, k % 17));
     }
     h
 }
 
 // Three pieces in a row, by the number of the sequence, and zeros behind them.
 fn hash_pieces(k: usize, hash: u64) -> u64 {
-    let mut buf = [0u8; 16];
-    let second = put_piece(&mut buf, 0, k);
-    let third = put_piece(&mut buf, second, k / 17);
-    put_piece(&mut buf, third, k / 289);
-    hash_parts(&buf, hash)
+    let mut bytes = [0u8; 16];
+    let second = put_piece(&mut bytes, 0, k);
+    let third = put_piece(&mut bytes, second, k / 17);
+    put_piece(&mut bytes, third, k / 289);
+    hash_parts(&bytes, hash)
 }
 
 fn hash_trims() -> u64 {

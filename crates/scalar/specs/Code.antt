@@ -15,8 +15,8 @@ use Rattle.item.specs.Tree.{Yaml, null, bool, int, str}
 use Rattle.item.specs.Encode.{signed}
 use Rattle.scalar.specs.declared.Parsed.{Parsed}
 use Rattle.scalar.specs.declared.Parsed.the-variants as parsed
-use Rattle.scalar.specs.declared.Found.{Found}
-use Rattle.scalar.specs.declared.Found.the-variants.{At, Nothing}
+use Rattle.item.specs.declared.Found.{Found}
+use Rattle.item.specs.declared.Found.the-variants.{At, Nothing}
 use Rattle.scalar.specs.declared.integers.Number.{Number}
 use Rattle.scalar.specs.declared.integers.Number.the-variants as number
 use Rattle.scalar.specs.declared.plain_text.Kind.{Kind}

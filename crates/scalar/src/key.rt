@@ -4,7 +4,7 @@ ghost use Prim.Native.Nat.{_≤_, _<_};
 ghost use lib.ListN.{length, drop};
 ghost use Rattle.scalar.specs.Key.{quoteAfter, depthAfter, qualifies, keyEnd};
 ghost use Rattle.scalar.specs.Code.{foundOf};
-use super::Found;
+use item::Found;
 
 // The quote that is open behind the byte `b`: 0 for none. A quote opens anywhere, and `\` hides none.
 fn quote_after(q: u8, b: u8) -> u8

@@ -9,7 +9,6 @@ pub use key::key_end;
 pub use plain_text::ends_colon;
 pub use plain_text::null_at;
 pub use plain_text::plain;
-pub use plain_text::put_scalar;
 pub use quoted_text::double_quoted;
 pub use quoted_text::single_quoted;
 use refusal::Refusal;
@@ -24,10 +23,4 @@ pub enum Role {
 pub enum Parsed {
     Done { next: usize, used: usize, key: bool },
     Refused(Refusal),
-}
-
-// Where a key ends.
-pub enum Found {
-    At(usize),
-    Nothing,
 }

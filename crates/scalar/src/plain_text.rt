@@ -1,12 +1,12 @@
 // Plain scalars, and what each scalar is written as.
 ghost use mathlib.Core.Path.{_≡_};
 ghost use mathlib.Core.Bool.{true, false};
+ghost use mathlib.Core.List.{List};
 ghost use Prim.Native.Nat.{ℕ, _+_, _≤_, _<_};
 ghost use lib.ListN.{length, drop, getD};
 ghost use Rattle.refusal.specs.Base.{oneOf};
 ghost use Rattle.item.specs.Tree.{null, bool, int};
 ghost use Rattle.item.specs.Encode.{signed, item};
-ghost use Rattle.utf8.specs.Part.{part};
 ghost use Rattle.scalar.specs.Scalars.{nulls, trues, falses, scalarOf, intText};
 ghost use Rattle.scalar.specs.Read as read;
 ghost use Rattle.scalar.specs.Read.{endsItem, endsColon, stopsPlain, scalar};
@@ -25,8 +25,7 @@ use item::put_null;
 use item::put_string;
 use item::same_bytes;
 use refusal::Refusal;
-use utf8::trim_end;
-use utf8::trim_start;
+use utf8::trimmed;
 
 // What a plain text says; a string is the text itself.
 enum Kind {
@@ -213,20 +212,11 @@ fn put_int_as(
     }
 }
 
-// The scalar that a trimmed part says, in its role.
-pub fn put_scalar(
-    s: &[u8],
-    from: usize,
-    to: usize,
-    next: usize,
-    role: Role,
-    out: &mut [u8],
-    at: usize,
-) -> Parsed
-    requires { ⌜ (from ≤ to) × (to ≤ length (now s)) × (next ≤ length (now s)) × (length (now s) ≤ 65535) × (at ≤ length (now out)) × (length (now out) ≤ 1048576) ⌝ }
-    ensures { λ r. ⌜ ((number : ℕ) → Agrees role (scalar (length (now (out .entry))) number role at (scalarOf (part (now (s .entry)) from to)) (drop next (now (s .entry)))) (now (s .entry)) (now (out .entry)) (now (out .exit)) at r) ⌝ }
+// The scalar that a trimmed text says, in its role.
+fn put_scalar(t: &[u8], next: usize, role: Role, out: &mut [u8], at: usize) -> Parsed
+    requires { ⌜ (length (now t) ≤ 65535) × (at ≤ length (now out)) × (length (now out) ≤ 1048576) ⌝ }
+    ensures { λ r. ⌜ ((s : List ℕ) (number : ℕ) → next ≤ length s → Agrees role (scalar (length (now (out .entry))) number role at (scalarOf (now (t .entry))) (drop next s)) s (now (out .entry)) (now (out .exit)) at r) ⌝ }
 {
-    let t = &s[from..to];
     match kind_of(t) {
         Kind::Null => put_null_as(next, role, out, at),
         Kind::Bool(value) => put_bool_as(value, next, role, out, at),
@@ -315,7 +305,5 @@ pub fn plain(
     ensures { λ r. ⌜ Agrees role (read.plain (length (now (out .entry))) line in_flow role at (drop i (now (s .entry)))) (now (s .entry)) (now (out .entry)) (now (out .exit)) at r ⌝ }
 {
     let end = plain_end(s, i, in_flow);
-    let from = trim_start(s, i, end);
-    let to = trim_end(s, from, end);
-    put_scalar(s, from, to, end, role, out, at)
+    put_scalar(trimmed(&s[i..end]), end, role, out, at)
 }

@@ -1,1 +1,9 @@
-pub mod Lost
+mod Turns
+mod Writing
+mod Reading
+mod Kept
+pub mod Lent
+pub mod Demand
+pub mod Job
+pub mod Table
+pub mod Examples

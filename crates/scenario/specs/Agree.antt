@@ -1,14 +1,14 @@
 -- What the writers of a record promise. Assumes nothing.
 use mathlib.Core.Path.{_≡_}
-use Prim.Native.Nat.{ℕ, _*_, _≤_}
+use Prim.Native.Nat.{ℕ, _+_, _*_, _≤_}
 use mathlib.Core.List.{List}
 use lib.ListN.{length}
 use lib.Seq.{sets}
 use Rattle.refusal.specs.Base.{Answer, good, refused}
 use Rattle.refusal.specs.Told.{refusal}
-use Rattle.record.specs.Meaning.{Step, Meaning}
+use Rattle.meaning.specs.Meaning.{Step}
 use Rattle.item.specs.Encode.{encode}
-use Rattle.record.specs.Record.{stepsItem, recordOf}
+use Rattle.meaning.specs.Record.{recordOf}
 use Rattle.nodes.specs.Agree.{Stored}
 use Rattle.scenario.specs.declared.ScenarioAnswer.{ScenarioAnswer}
 use Rattle.scenario.specs.declared.ScenarioAnswer.the-variants.{Read, Refused as Unread}
@@ -16,29 +16,27 @@ use Rattle.scenario.specs.declared.Steps.{Steps}
 use Rattle.scenario.specs.declared.Steps.the-variants.{Done, Refused}
 use Rattle.scenario.specs.Scenario.{linesFor, Reading}
 
--- steps, stored as their item, and their lines, of `lines`
-pub record WroteSteps (answer : Answer (List Step)) (lines old new : List ℕ) (at : ℕ) (places filled : List ℕ) (end count : ℕ) : Type 0 where
-  pub read : List Step
-  pub is : answer ≡ good read
-  pub stored : Stored old new at (stepsItem read) end
-  pub lined : Stored places filled 0 (linesFor read lines) count
-  pub many : count ≡ length read
-
-abbrev pub AgreesSteps : Answer (List Step) → List ℕ → List ℕ → List ℕ → ℕ → List ℕ → List ℕ → Steps → Type 0
-AgreesSteps answer lines old new at places filled (Done end count) = WroteSteps answer lines old new at places filled end count
-AgreesSteps answer lines old new at places filled (Refused e) = answer ≡ refusal e
-
--- a meaning, stored as `write` says, and its steps' lines
-pub record WroteMeaning (answer : Answer Meaning) (write : Meaning → List ℕ) (lines old new : List ℕ) (at : ℕ) (places filled : List ℕ) (end count : ℕ) : Type 0 where
-  pub read : Meaning
+-- an answer, stored as `write` says, and the lines of its steps, of `lines`
+pub record WroteSteps {A : Type 0} (answer : Answer A) (write : A → List ℕ) (steps : A → List Step) (lines old new : List ℕ) (at : ℕ) (places filled : List ℕ) (end count : ℕ) : Type 0 where
+  pub read : A
   pub is : answer ≡ good read
   pub stored : Stored old new at (write read) end
-  pub lined : Stored places filled 0 (linesFor (read .steps) lines) count
-  pub many : count ≡ length (read .steps)
+  pub lined : Stored places filled 0 (linesFor (steps read) lines) count
+  pub many : count ≡ length (steps read)
 
-abbrev pub AgreesMeaning : Answer Meaning → (Meaning → List ℕ) → List ℕ → List ℕ → List ℕ → ℕ → List ℕ → List ℕ → Steps → Type 0
-AgreesMeaning answer write lines old new at places filled (Done end count) = WroteMeaning answer write lines old new at places filled end count
-AgreesMeaning answer write lines old new at places filled (Refused e) = answer ≡ refusal e
+abbrev pub AgreesSteps : {A : Type 0} → Answer A → (A → List ℕ) → (A → List Step) → List ℕ → List ℕ → List ℕ → ℕ → List ℕ → List ℕ → Steps → Type 0
+AgreesSteps answer write steps lines old new at places filled (Done end count) = WroteSteps answer write steps lines old new at places filled end count
+AgreesSteps answer write steps lines old new at places filled (Refused e) = answer ≡ refusal e
+
+-- whatever the bytes are: what is written ends behind a header, and the outputs keep their lengths
+abbrev pub EndsBehind : ℕ → Steps → Type 0
+EndsBehind at (Done end count) = at + 6 ≤ end
+EndsBehind at (Refused e) = Unit {0}
+
+pub record StepsNear (old new : List ℕ) (at : ℕ) (places filled : List ℕ) (r : Steps) : Type 0 where
+  pub ends : EndsBehind at r
+  pub kept : length new ≡ length old
+  pub lines-kept : length filled ≡ length places
 
 -- what the code's answer says: the bytes of tree, record and lines, and the steps
 abbrev pub answerOf : ScenarioAnswer → Answer (ℕ × ℕ × ℕ × ℕ)

@@ -1,10 +1,2 @@
 pub mod Scenario
 pub mod Agree
-pub mod Turns
-pub mod Fields
-pub mod Reading
-pub mod Kept
-pub mod Lent
-pub mod Demand
-pub mod Job
-pub mod Examples

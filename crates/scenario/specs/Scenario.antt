@@ -6,12 +6,12 @@ use lib.ListN.{length, drop, replicate}
 use Rattle.refusal.specs.Base.{Answer, good, refused, _>>=_, _>>_, ensure}
 use Rattle.item.specs.Tree.{Yaml}
 use Rattle.item.specs.Encode.{encode}
-use Rattle.lines.specs.Lines.{Line, significantLines}
+use Rattle.lines.specs.Lines.{significantLines}
 use Rattle.tree.specs.Tree.{admitted, treeOf}
-use Rattle.record.specs.Meaning.{Step, Meaning}
-use Rattle.record.specs.Record.{recordOf}
+use Rattle.meaning.specs.Meaning.{Step, Meaning}
+use Rattle.meaning.specs.Record.{recordOf}
 use Rattle.step_lines.specs.StepLines.{stepLines, headLine, tailLines}
-use Rattle.nodes.specs.Meanings.{meaningOf}
+use Rattle.meaning.specs.Meanings.{meaningOf}
 
 -- a line for each step
 unfoldable pub linesFor : List Step → List ℕ → List ℕ

@@ -1,1 +1,4 @@
-mod Lost
+mod Commands
+mod Fields
+mod Steps
+mod Writing

@@ -1,101 +1,119 @@
--- What the readers of a step promise. Assumes nothing.
+-- What the readers and the writers of a step promise. Assumes nothing.
 use mathlib.Core.Path.{_≡_}
-use Prim.Native.Nat.{ℕ, _≤_, _<_}
-use mathlib.Core.List.{List, _++_}
-use mathlib.Core.Bool.{false}
+use Prim.Native.Nat.{ℕ, _-_, _≤_}
+use mathlib.Core.List.{List}
+use mathlib.Core.Bool.{Bool, true, false}
 use mathlib.Core.Option.{Option, none, some}
-use lib.ListN.{length}
-use Rattle.refusal.specs.Base.{good, refused, bytes, maybe, oneOf}
-use Rattle.item.specs.Tree.{Yaml, null, bool, int, str, seq, dict, Entries, pair}
-use Rattle.item.specs.Encode.{item, encode}
-use Rattle.record.specs.Meaning.{Step, stepFields}
-use Rattle.nodes.specs.Agree.{Stands, Holds, get}
+use lib.ListN.{length, take, drop}
+use Rattle.refusal.specs.Base.{Answer, good, refused, ensure, maybe}
+use Rattle.refusal.specs.Told.{refusal}
+use Rattle.item.specs.Tree.{Yaml, dict, Entries, done, pair, Ranged}
+use Rattle.item.specs.Encode.{encode}
+use Rattle.item.specs.declared.Found.{Found}
+use Rattle.scalar.specs.Scalars.{text}
+use Rattle.entries.specs.declared.Pair.{Pair}
+use Rattle.entries.specs.declared.Pair.the-variants as pairs
+use Rattle.entries.specs.Entries.{Stands, Holds, Finds, FoundInside}
+use Rattle.nodes.specs.Agree.{Reads}
+use Rattle.meaning.specs.Meaning.{Step}
+use Rattle.meaning.specs.Meanings.{orEmpty, expectOf, commands, commandOf, expectAllowed, isTrue}
 use Rattle.step.specs.declared.Command.{Command}
-use Rattle.step.specs.declared.Command.the-variants as command
-use Rattle.step.specs.declared.Expect.{Expect}
-use Rattle.step.specs.declared.Expect.the-variants.{Absent, Mapping, Other}
-use Rattle.nodes.specs.Meanings.{commands, commandOf, scalarAt, orEmpty, isTrue}
+use Rattle.step.specs.declared.Command.the-variants.{One, Other}
+use Rattle.step.specs.declared.StepPlaces.{StepPlaces}
+use Rattle.step.specs.declared.StepRead.{StepRead}
+use Rattle.step.specs.declared.StepRead.the-variants as read
 
--- the entries from `from` to `to` and those from the next command on have the same commands, and before the end the first of these is one
-pub record NextCommand (s : List ℕ) (from to r : ℕ) : Type 0 where
-  pub high : r ≤ to
-  pub same : (es : Entries) → Holds s from to es → (rest : Entries) × Holds s r to rest × (commands es ≡ commands rest)
-  pub first : r < to → (k : List ℕ) (v : Yaml) (es : Entries) → Holds s r to (pair k v es) → oneOf k stepFields ≡ false
+-- ---- a step by its places
 
-abbrev pub CommandInside : List ℕ → Command → Type 0
-CommandInside s (command.One p) = p ≤ length s
-CommandInside s command.Other = Unit {0}
+-- an entry: the text of its key, and behind it its value
+pub record EntryAt (s : List ℕ) (start end : ℕ) (k : List ℕ) (v : Yaml) : Type 0 where
+  pub key : take (end - start) (drop start s) ≡ k
+  pub ranged : Ranged v
+  pub value : Stands s end (encode v)
 
--- the one command: its key and its value, where they stand
-pub record IsCommand (s : List ℕ) (es : Entries) (p : ℕ) : Type 0 where
-  pub key : List ℕ
-  pub value : Yaml
-  pub is : (n : ℕ) → commandOf n (commands es) ≡ good (key, value)
-  pub stands : Stands s p (item 3 key ++ encode value)
+-- a key's value that is absent or a mapping
+unfoldable pub mapping : Option Entries → Option Yaml
+mapping none = none
+mapping (some es) = some (dict es)
+
+pub record StepStands (s : List ℕ) (step : Step) (p : StepPlaces) : Type 0 where
+  pub name : Reads s (λ o. orEmpty (maybe o none text)) (p .name) (step .name)
+  pub id : Reads s (λ o. orEmpty (maybe o none text)) (p .id) (step .id)
+  pub command : EntryAt s (p .key) (p .value) (step .key) (step .value)
+  pub timeout : Reads s (λ o. maybe o none text) (p .timeout) (step .timeout)
+  pub continue : Reads s isTrue (p .continues) (step .continue)
+  pub expect : Finds s (mapping (step .expect)) (p .expect)
+
+-- a reading, and where the parts of the step stand that it gives
+pub record ReadsStep (s : List ℕ) (answer : Answer Step) (p : StepPlaces) : Type 0 where
+  pub step : Step
+  pub is : answer ≡ good step
+  pub stands : StepStands s step p
+
+abbrev pub AgreesRead : List ℕ → Answer Step → StepRead → Type 0
+AgreesRead s answer (read.Step p) = ReadsStep s answer p
+AgreesRead s answer (read.Refused e) = answer ≡ refusal e
+
+-- places in the bytes, whatever they are
+pub record PlacesInside (s : List ℕ) (p : StepPlaces) : Type 0 where
+  pub name : FoundInside s (p .name)
+  pub id : FoundInside s (p .id)
+  pub key : p .key ≤ p .value
+  pub value : p .value ≤ length s
+  pub timeout : FoundInside s (p .timeout)
+  pub continue : FoundInside s (p .continues)
+  pub expect : FoundInside s (p .expect)
+
+abbrev pub ReadInside : List ℕ → StepRead → Type 0
+ReadInside s (read.Step p) = PlacesInside s p
+ReadInside s (read.Refused e) = Unit {0}
+
+-- ---- 33
+
+abbrev pub AgreesExpect : Option Yaml → Bool → Type 0
+AgreesExpect o true = (m : Option Entries) × (o ≡ mapping m)
+AgreesExpect o false = (line n : ℕ) → expectOf line n o ≡ refused 33 line n
+
+-- ---- 34
+
+-- the first of some commands, and the entries that the others are of
+pub record FirstCommand (s : List ℕ) (to : ℕ) (cs : Entries) (start end next : ℕ) : Type 0 where
+  pub k : List ℕ
+  pub v : Yaml
+  pub others : Entries
+  pub is : cs ≡ pair k v (commands others)
+  pub entry : EntryAt s start end k v
+  pub behind : Holds s next to others
+
+abbrev pub AgreesFirst : List ℕ → ℕ → Entries → Pair → Type 0
+AgreesFirst s to cs (pairs.At start end kind next) = FirstCommand s to cs start end next
+AgreesFirst s to cs pairs.Nowhere = cs ≡ done
+
+abbrev pub FirstInside : List ℕ → Pair → Type 0
+FirstInside s (pairs.At start end kind next) = (start ≤ end) × (end ≤ length s)
+FirstInside s pairs.Nowhere = Unit {0}
+
+-- the one command
+pub record OneCommand (s : List ℕ) (cs : Entries) (key value : ℕ) : Type 0 where
+  pub k : List ℕ
+  pub v : Yaml
+  pub is : (n : ℕ) → commandOf n cs ≡ good (k, v)
+  pub entry : EntryAt s key value k v
 
 abbrev pub AgreesCommand : List ℕ → Entries → Command → Type 0
-AgreesCommand s es (command.One p) = IsCommand s es p
-AgreesCommand s es command.Other = (n : ℕ) → commandOf n (commands es) ≡ refused 34 0 n
+AgreesCommand s cs (One key value) = OneCommand s cs key value
+AgreesCommand s cs Other = (n : ℕ) → commandOf n cs ≡ refused 34 0 n
 
--- absent, a mapping, or another value
-abbrev pub AgreesExpect : Option Yaml → Expect → Type 0
-AgreesExpect none Absent = Unit {0}
-AgreesExpect none Mapping = ⊥
-AgreesExpect none Other = ⊥
-AgreesExpect (some (dict es)) Mapping = Unit {0}
-AgreesExpect (some (dict es)) Absent = ⊥
-AgreesExpect (some (dict es)) Other = ⊥
-AgreesExpect (some null) Other = Unit {0}
-AgreesExpect (some null) Absent = ⊥
-AgreesExpect (some null) Mapping = ⊥
-AgreesExpect (some (bool b)) Other = Unit {0}
-AgreesExpect (some (bool b)) Absent = ⊥
-AgreesExpect (some (bool b)) Mapping = ⊥
-AgreesExpect (some (int z)) Other = Unit {0}
-AgreesExpect (some (int z)) Absent = ⊥
-AgreesExpect (some (int z)) Mapping = ⊥
-AgreesExpect (some (str t)) Other = Unit {0}
-AgreesExpect (some (str t)) Absent = ⊥
-AgreesExpect (some (str t)) Mapping = ⊥
-AgreesExpect (some (seq ys)) Other = Unit {0}
-AgreesExpect (some (seq ys)) Absent = ⊥
-AgreesExpect (some (seq ys)) Mapping = ⊥
+abbrev pub CommandInside : List ℕ → Command → Type 0
+CommandInside s (One key value) = (key ≤ value) × (value ≤ length s)
+CommandInside s Other = Unit {0}
 
--- the mapping that `expect` is, if any
-unfoldable pub expectIn : Option Yaml → Option Entries
-expectIn none = none
-expectIn (some null) = none
-expectIn (some (bool b)) = none
-expectIn (some (int z)) = none
-expectIn (some (str t)) = none
-expectIn (some (seq ys)) = none
-expectIn (some (dict es)) = some es
+-- ---- 35
 
--- `expect` is absent or a mapping
-pub record ExpectFits (es : Entries) : Type 0 where
-  pub is : maybe (get (bytes "expect") es) null (λ v. v) ≡ maybe (expectIn (get (bytes "expect") es)) null dict
-
--- the step of these entries with this command
-unfoldable pub stepWith : Entries → List ℕ → Yaml → Step
-stepWith es k v = record {
-  name = orEmpty (scalarAt (bytes "name") es);
-  id = orEmpty (scalarAt (bytes "id") es);
-  key = k;
-  value = v;
-  timeout = scalarAt (bytes "timeout") es;
-  continue = isTrue (get (bytes "continue_on_error") es);
-  expect = expectIn (get (bytes "expect") es);
-}
-
--- a step's fields before its command, and those behind it
-unfoldable pub namesOf : Entries → List ℕ
-namesOf es = item 3 (orEmpty (scalarAt (bytes "name") es)) ++ item 3 (orEmpty (scalarAt (bytes "id") es))
-
-unfoldable pub restOf : Entries → List ℕ
-restOf es =
-    maybe (scalarAt (bytes "timeout") es) (encode null) (λ t. item 3 t)
-    ++ (encode (bool (isTrue (get (bytes "continue_on_error") es))) ++ encode (maybe (get (bytes "expect") es) null (λ v. v)))
+abbrev pub AgreesAllowed : List ℕ → Found → ℕ → ℕ → Bool → Type 0
+AgreesAllowed s expect key value r =
+    (line n : ℕ) (m : Option Entries) → Finds s (mapping m) expect → expectAllowed line n (take (value - key) (drop key s)) m ≡ ensure r 35 line n
 
 unfoldable pub Agree-open : Unit {0}
-unfolding expectIn stepWith namesOf restOf
+unfolding mapping
 Agree-open = tt

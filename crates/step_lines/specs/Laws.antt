@@ -1,44 +1,29 @@
 -- Step lines by the entries of the table. Assumes nothing.
-use mathlib.Core.Path.{_≡_, refl, sym, ap, _∙_}
+use mathlib.Core.Path.{_≡_, sym, ap, _∙_}
 use Prim.Native.Nat.{ℕ, _+_, _≤_, _<_}
 use native.Mathlib.Omega.{arith}
 use mathlib.Core.List.{List, [], _∷_}
-use mathlib.Core.Bool.{Bool, true, false, _&&_}
-use lib.Dec.{ltb, eqb}
+use mathlib.Core.Bool.{true, false}
 use lib.ListN.{drop}
 use borrow.Author.Tests.{eq-eqb, ne-eqb, lt-ltb, le-ltb}
 use Rattle.refusal.specs.Base.{if_then_else_, bytes, same}
-use Rattle.utf8.specs.Part.{part}
-use Rattle.lines.specs.declared.Entry.{Entry}
 use Rattle.lines.specs.Lines.{Line}
-use Rattle.lines.specs.Table.{tableLines, lineAt, IsEntry}
-use Rattle.literal.specs.Rows.{rows-next}
-use Rattle.block.specs.Block.{dashed}
-use Rattle.block.specs.Places.{all-read, text-is}
+use Rattle.lines.specs.Table.{tableLines, lineAt}
+use Rattle.lines.specs.Dash.{isDash}
+use Rattle.lines.specs.Rows.{rows-end, rows-next}
 use Rattle.step_lines.specs.declared.Dashes.{Dashes}
 use Rattle.step_lines.specs.declared.StepLine.{StepLine}
-use Rattle.step_lines.specs.StepLines.{isSteps, behindSteps, isDash, dashesAt, dashesFrom, stepLines, headLine, tailLines}
+use Rattle.step_lines.specs.StepLines.{isSteps, behindSteps, dashesAt, dashesFrom, stepLines, headLine, tailLines}
 use Rattle.step_lines.specs.Agree.{Begins, Next}
 
-module _ (text table : List ℕ) (count i : ℕ) (h : i < count) (x : Entry) (is : IsEntry table i x) where
-  abbrev l : Line
-  l = lineAt text table i
-
-  pub no-steps : (x .indent ≡ 0 → ⊥) → false ≡ isSteps l
+module _ (l : Line) where
+  pub no-steps : (l .indent ≡ 0 → ⊥) → false ≡ isSteps l
   unfolding isSteps
-  no-steps n = rw (ne-eqb (l .indent) 0 (λ e. n (is .indent′ ∙ e)))
+  no-steps n = rw (ne-eqb (l .indent) 0 n)
 
-  pub are-steps : x .indent ≡ 0 → same (part text (x .start) (x .end)) (bytes "steps:") ≡ isSteps l
+  pub are-steps : l .indent ≡ 0 → same (l .text) (bytes "steps:") ≡ isSteps l
   unfolding isSteps
-  are-steps e = rw (eq-eqb (l .indent) 0 (sym (is .indent′) ∙ e)) (ap (λ (t : List ℕ). same t (bytes "steps:")) (text-is text table count i h x is))
-
-  pub no-dash : (indent : ℕ) → (x .indent ≡ indent → ⊥) → false ≡ isDash indent l
-  unfolding isDash
-  no-dash indent n = rw (ne-eqb (l .indent) indent (λ e. n (is .indent′ ∙ e)))
-
-  pub a-dash : (indent : ℕ) → x .indent ≡ indent → dashed (part text (x .start) (x .end)) ≡ isDash indent l
-  unfolding isDash
-  a-dash indent e = rw (eq-eqb (l .indent) indent (sym (is .indent′) ∙ e)) (ap dashed (text-is text table count i h x is))
+  are-steps e = rw (eq-eqb (l .indent) 0 e)
 
 module _ (text table : List ℕ) (count : ℕ) where
   abbrev ls : List Line
@@ -56,12 +41,12 @@ module _ (text table : List ℕ) (count : ℕ) where
 
   pub steps-none : (i : ℕ) → i ≡ count → behindSteps (drop i ls) ≡ drop i ls
   unfolding behindSteps
-  steps-none i e = ap behindSteps (all-read text table count i e) ∙ sym (all-read text table count i e)
+  steps-none i e = ap behindSteps (rows-end text table count i e) ∙ sym (rows-end text table count i e)
 
   pub begins-none : (d : Dashes) → d .at ≡ count → drop (d .at) ls ≡ behindSteps ls → Begins ls count d
   unfolding stepLines dashesFrom dashesAt
   begins-none d e b =
-      let n : drop (d .at) ls ≡ [] = all-read text table count (d .at) e in
+      let n : drop (d .at) ls ≡ [] = rows-end text table count (d .at) e in
       record { is = ap dashesFrom (sym b ∙ n) ∙ sym (ap (dashesAt (d .indent)) n); within = omega arith }
 
   pub begins-at : (d : Dashes) → d .at < count → d .indent ≡ lineAt text table (d .at) .indent → drop (d .at) ls ≡ behindSteps ls → Begins ls count d
@@ -85,7 +70,7 @@ module _ (text table : List ℕ) (count : ℕ) where
     unfolding dashesAt headLine tailLines
     none-next n r p q =
         let e : dashesAt indent (drop i ls) ≡ [] = v ∙ n in
-        record { is = p ∙ sym (ap headLine e); others = ap (dashesAt indent) (all-read text table count (r .next) q) ∙ sym (ap tailLines e); within = omega arith }
+        record { is = p ∙ sym (ap headLine e); others = ap (dashesAt indent) (rows-end text table count (r .next) q) ∙ sym (ap tailLines e); within = omega arith }
 
     pub next-ended : d < count → lineAt text table d .indent < indent → (r : StepLine) → r .line ≡ 0 → r .next ≡ count → Next ls count indent i r
     unfolding dashesAt if_then_else_
@@ -93,7 +78,7 @@ module _ (text table : List ℕ) (count : ℕ) where
 
     pub next-none : d ≡ count → (r : StepLine) → r .line ≡ 0 → r .next ≡ count → Next ls count indent i r
     unfolding dashesAt
-    next-none e r p q = none-next (ap (dashesAt indent) (all-read text table count d e)) r p q
+    next-none e r p q = none-next (ap (dashesAt indent) (rows-end text table count d e)) r p q
 
     pub next-here : d < count → indent ≤ lineAt text table d .indent → isDash indent (lineAt text table d) ≡ true
         → (r : StepLine) → r .line ≡ lineAt text table d .number → r .next ≡ d + 1 → Next ls count indent i r

@@ -5,7 +5,7 @@ use mathlib.Core.Bool.{Bool, _&&_}
 use lib.Dec.{ltb, eqb}
 use Rattle.refusal.specs.Base.{if_then_else_, bytes, same}
 use Rattle.lines.specs.Lines.{Line}
-use Rattle.block.specs.Block.{dashed}
+use Rattle.lines.specs.Dash.{isDash}
 
 -- a line exactly `steps:` at indentation 0
 unfoldable pub isSteps : Line → Bool
@@ -16,11 +16,7 @@ unfoldable pub behindSteps : List Line → List Line
 behindSteps [] = []
 behindSteps (l ∷ ls) = if isSteps l then ls else behindSteps ls
 
--- a line `-` or starting `- ` at an indentation
-unfoldable pub isDash : ℕ → Line → Bool
-isDash indent l = eqb (l .indent) indent && dashed (l .text)
-
--- these lines, until one less indented
+-- the lines `-` or starting `- ` at an indentation, until one less indented
 unfoldable pub dashesAt : ℕ → List Line → List ℕ
 dashesAt indent [] = []
 dashesAt indent (l ∷ ls) =
@@ -46,5 +42,5 @@ tailLines [] = []
 tailLines (n ∷ ns) = ns
 
 unfoldable pub StepLines-open : Unit {0}
-unfolding isSteps behindSteps isDash dashesAt dashesFrom stepLines headLine tailLines
+unfolding isSteps behindSteps dashesAt dashesFrom stepLines headLine tailLines
 StepLines-open = tt

@@ -1,14 +1,15 @@
 // The lines of steps, from the table of a text's lines (document 01, section 4).
 ghost use mathlib.Core.Path.{_≡_};
 ghost use Prim.Native.Nat.{_≤_, _<_};
-ghost use lib.ListN.{length, drop};
+ghost use lib.ListN.{drop};
 ghost use Rattle.lines.specs.Table.{tableLines, lineAt};
-ghost use Rattle.literal.specs.Agree.{Ready};
-ghost use Rattle.step_lines.specs.StepLines.{isSteps, isDash, behindSteps};
+ghost use Rattle.lines.specs.Ready.{Ready};
+ghost use Rattle.step_lines.specs.StepLines.{isSteps, behindSteps};
 ghost use Rattle.step_lines.specs.Agree.{Begins, Next};
-use block::dashed;
 use item::same_bytes;
+use lines::dash_at;
 use lines::entry_at;
+use lines::line_text;
 
 // Where the steps begin: the entry of the table, and its indentation.
 pub struct Dashes {
@@ -31,9 +32,7 @@ fn is_steps(text: &[u8], table: &[u16], count: usize, i: usize) -> bool
     if line.indent != 0 {
         return false;
     }
-    let start = line.start;
-    let end = line.end;
-    same_bytes(&text[start..end], b"steps:")
+    same_bytes(line_text(text, table, count, i), b"steps:")
 }
 
 // The entry behind the first that is.
@@ -66,20 +65,6 @@ pub fn first_dash(text: &[u8], table: &[u16], count: usize) -> Dashes
     }
 }
 
-// Whether an entry is a dash at an indentation.
-fn is_dash(text: &[u8], table: &[u16], count: usize, i: usize, indent: usize) -> bool
-    requires { ⌜ Ready (now text) (now table) count × (i < count) ⌝ }
-    ensures { λ r. ⌜ r ≡ isDash indent (lineAt (now (text .entry)) (now (table .entry)) i) ⌝ }
-{
-    let line = entry_at(table, i);
-    if line.indent != indent {
-        return false;
-    }
-    let start = line.start;
-    let end = line.end;
-    dashed(&text[start..end])
-}
-
 // The line of the next dash from entry `i` on; 0 where none comes before a line less indented.
 pub fn next_dash(text: &[u8], table: &[u16], count: usize, i: usize, indent: usize) -> StepLine
     requires { ⌜ Ready (now text) (now table) count × (i ≤ count) ⌝ }
@@ -94,7 +79,7 @@ pub fn next_dash(text: &[u8], table: &[u16], count: usize, i: usize, indent: usi
                 next: count,
             };
         }
-        if is_dash(text, table, count, d, indent) {
+        if dash_at(text, table, count, d, indent) {
             return StepLine {
                 line: line.number,
                 next: d + 1,

@@ -1,1 +1,5 @@
-mod Lost
+mod Values
+mod Keys
+mod DefaultKeys
+mod Tags
+mod Parts

@@ -1,3 +1,1 @@
 pub mod Agree
-pub mod Laws
-pub mod Walks

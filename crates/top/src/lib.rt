@@ -1,93 +1,111 @@
-// The top keys of a scenario in the bytes of its tree (document 01, section 4).
+// The top keys of a scenario in the bytes of its tree (document 01, section 4): where their parts stand, and from there the fields of
+// its record. Reading writes nothing, and writing refuses nothing.
 ghost use mathlib.Core.Path.{_≡_};
-ghost use mathlib.Core.List.{List, []};
-ghost use mathlib.Core.Option.{Option, none};
-ghost use Prim.Native.Nat.{ℕ, _+_, _*_, _-_, _≤_, _<_};
+ghost use mathlib.Core.Option.{Option};
+ghost use Prim.Native.Nat.{_+_, _*_, _-_, _≤_};
 ghost use lib.ListN.{length};
-ghost use lib.Seq.{sets};
-ghost use Rattle.refusal.specs.Base.{maybe, oneOf};
 ghost use Rattle.utf8.specs.Part.{part};
-ghost use Rattle.item.specs.Tree as trees;
-ghost use Rattle.item.specs.Tree.{Yaml, Items, Entries, pair};
+ghost use Rattle.item.specs.Tree.{Yaml, Items, Entries, Ranged};
 ghost use Rattle.item.specs.Encode as items;
-ghost use Rattle.item.specs.Encode.{head, encode};
-ghost use Rattle.item.specs.Back.{Ranged};
-ghost use Rattle.scalar.specs.Scalars.{text};
-ghost use Rattle.nodes.specs.declared.Pair.the-variants as pairs;
-ghost use Rattle.nodes.specs.Agree.{Stands, Holds, get, Finds, Inside, Stored, Near, RendersAs, RendersNear, kindOf, PairPlaces, AgreesPart, PartNear};
-ghost use Rattle.record.specs.Record.{tagsItem, defaultsItem};
-ghost use Rattle.nodes.specs.Meanings.{topKeys, checkSchema, textsOf, noDefaults, defaultsFrom, defaultsOf};
-ghost use Rattle.top.specs.Agree.{KnownKeys, AgreesChecked, SequenceInside, AgreesSequence, defaultKey, AgreesDefaults};
+ghost use Rattle.item.specs.Encode.{encode};
+ghost use Rattle.entries.specs.Entries.{Stands, Holds, Finds};
+ghost use Rattle.nodes.specs.Agree.{Stored, Reads};
+ghost use Rattle.meaning.specs.Meaning as meaning;
+ghost use Rattle.meaning.specs.Record.{joined, tagsItem, defaultsItem};
+ghost use Rattle.meaning.specs.Meanings.{Top, textsOf, noDefaults, defaultsFrom, defaultsOf, topOf};
+ghost use Rattle.top.specs.Agree.{orNull, scalarOf, TopStands, AgreesTop, RangeInside, PlacesInside, TopInside, topFields, IsValue, KnownKeys, AgreesScalar, isSchema, Passed, AgreesSequence, SequenceInside, defaultKey, AgreesDefaults, DefaultsInside};
+use entries::Pair;
+use entries::Span;
+use entries::find;
+use entries::item_at;
+use entries::pair_at;
+use item::Found;
 use item::Header;
 use item::header_at;
 use item::same_bytes;
-use nodes::Pair;
-use nodes::Part;
+use meaning::is_top_key;
 use nodes::Rendered;
 use nodes::close;
-use nodes::pair_at;
 use nodes::put;
+use nodes::put_found;
 use nodes::put_optional;
+use nodes::put_value;
 use nodes::render;
 use refusal::Refusal;
-use scalar::Found;
 
-// What a test of a part answers.
-pub enum Checked {
-    Fine,
-    Refused(Refusal),
+// A value by its kind and the places of its content.
+struct Value {
+    kind: usize,
+    from: usize,
+    to: usize,
 }
 
-// Where the items of a sequence stand; a key that is absent or null has none.
-pub enum Sequence {
-    Items { from: usize, to: usize },
+// Where items stand one behind another.
+pub struct Range {
+    pub from: usize,
+    pub to: usize,
+}
+
+// The items of a sequence, or that a value is none.
+enum Sequence {
+    Items(Range),
     Other,
 }
 
 // Where the two defaults stand, or why they are refused.
-pub enum Defaults {
+enum Defaults {
     Places { timeout: Found, wall_budget: Found },
     Refused(Refusal),
 }
 
 // Which default a key is.
-pub enum Default {
+enum Default {
     Timeout,
     WallBudget,
     Unknown,
 }
 
-fn is_top_key(key: &[u8]) -> bool
-    ensures { λ r. ⌜ r ≡ oneOf (now (key .entry)) topKeys ⌝ }
-{
-    if same_bytes(key, b"schema") {
-        return true;
-    }
-    if same_bytes(key, b"name") {
-        return true;
-    }
-    if same_bytes(key, b"description") {
-        return true;
-    }
-    if same_bytes(key, b"image") {
-        return true;
-    }
-    if same_bytes(key, b"tags") {
-        return true;
-    }
-    if same_bytes(key, b"setup") {
-        return true;
-    }
-    if same_bytes(key, b"defaults") {
-        return true;
-    }
-    if same_bytes(key, b"fail_on") {
-        return true;
-    }
-    same_bytes(key, b"steps")
+// Where the parts of a scenario stand.
+pub struct TopPlaces {
+    pub name: Found,
+    pub description: Found,
+    pub tags: Range,
+    pub image: Found,
+    pub setup: Found,
+    pub timeout: Found,
+    pub wall_budget: Found,
+    pub fail_on: Range,
+    pub steps: Range,
 }
 
-pub fn known_keys(s: &[u8], from: usize, to: usize) -> bool
+// What reading the top keys answers.
+pub enum TopRead {
+    Done(TopPlaces),
+    Refused(Refusal),
+}
+
+// What was looked for. A key that is absent is read as null.
+fn value_of(s: &[u8], found: Found) -> Value
+    requires { ⌜ length (now s) ≤ 1048576 ⌝ }
+    ensures { λ r. ⌜ (r .from ≤ r .to) × (r .to ≤ length (now (s .entry))) ⌝ }
+    ensures value { λ r. ⌜ ((o : Option Yaml) → Finds (now (s .entry)) o found → IsValue (now (s .entry)) (orNull o) r) ⌝ }
+{
+    let null = Value {
+        kind: 0,
+        from: 0,
+        to: 0,
+    };
+    let Found::At(p) = found else {
+        return null;
+    };
+    let head = header_at(s, p);
+    let Header::Item { kind, from, to } = head else {
+        return null;
+    };
+    Value { kind, from, to }
+}
+
+fn known_keys(s: &[u8], from: usize, to: usize) -> bool
     requires { ⌜ (length (now s) ≤ 1048576) × (to ≤ length (now s)) ⌝ }
     ensures { λ r. ⌜ ((es : Entries) → Holds (now (s .entry)) from to es → KnownKeys es r) ⌝ }
 {
@@ -111,89 +129,52 @@ pub fn known_keys(s: &[u8], from: usize, to: usize) -> bool
     true
 }
 
-pub fn check_schema(s: &[u8], found: Found) -> Checked
-    requires { ⌜ (length (now s) ≤ 1048576) ⌝ }
-    ensures { λ r. ⌜ ((o : Option Yaml) → Finds (now (s .entry)) o found → AgreesChecked (checkSchema (maybe o none text)) r) ⌝ }
+fn is_scalar(s: &[u8], found: Found) -> bool
+    requires { ⌜ length (now s) ≤ 1048576 ⌝ }
+    ensures { λ r. ⌜ ((o : Option Yaml) → Finds (now (s .entry)) o found → AgreesScalar (scalarOf o) r) ⌝ }
 {
-    let Found::At(p) = found else {
-        return Checked::Refused(Refusal::NoSchema);
-    };
-    let head = header_at(s, p);
-    let Header::Item { kind, from, to } = head else {
-        return Checked::Refused(Refusal::NoSchema);
-    };
-    if kind == 3 {
-        if same_bytes(&s[from..to], b"passportsim/scenario@1") {
-            return Checked::Fine;
-        }
-        return Checked::Refused(Refusal::OtherSchema);
+    let value = value_of(s, found);
+    if value.kind == 0 {
+        return false;
     }
-    if kind == 1 {
-        return Checked::Refused(Refusal::OtherSchema);
+    if value.kind > 3 {
+        return false;
     }
-    if kind == 2 {
-        return Checked::Refused(Refusal::OtherSchema);
-    }
-    Checked::Refused(Refusal::NoSchema)
+    true
 }
 
-pub fn sequence_of(s: &[u8], found: Found) -> Sequence
-    requires { ⌜ (length (now s) ≤ 1048576) ⌝ }
+// Only a string can be it: no text of a boolean or an integer is.
+fn is_schema(s: &[u8], found: Found) -> bool
+    requires { ⌜ length (now s) ≤ 1048576 ⌝ }
+    ensures { λ r. ⌜ ((o : Option Yaml) → Finds (now (s .entry)) o found → r ≡ isSchema (scalarOf o)) ⌝ }
+{
+    let value = value_of(s, found);
+    if value.kind != 3 {
+        return false;
+    }
+    let from = value.from;
+    let to = value.to;
+    same_bytes(&s[from..to], b"passportsim/scenario@1")
+}
+
+// The items of a sequence; null has none.
+fn sequence_of(s: &[u8], found: Found) -> Sequence
+    requires { ⌜ length (now s) ≤ 1048576 ⌝ }
     ensures { λ r. ⌜ SequenceInside (now (s .entry)) r ⌝ }
     ensures items { λ r. ⌜ ((o : Option Yaml) → Finds (now (s .entry)) o found → AgreesSequence (now (s .entry)) o r) ⌝ }
 {
-    let Found::At(p) = found else {
-        return Sequence::Items { from: 0, to: 0 };
+    let value = value_of(s, found);
+    let items = Range {
+        from: value.from,
+        to: value.to,
     };
-    let head = header_at(s, p);
-    let Header::Item { kind, from, to } = head else {
-        return Sequence::Other;
-    };
-    if kind == 0 {
-        return Sequence::Items { from: 0, to: 0 };
+    if value.kind == 0 {
+        return Sequence::Items(items);
     }
-    if kind == 4 {
-        return Sequence::Items { from, to };
+    if value.kind == 4 {
+        return Sequence::Items(items);
     }
     Sequence::Other
-}
-
-// The items of a sequence as they stand.
-pub fn put_sequence(s: &[u8], from: usize, to: usize, out: &mut [u8], at: usize) -> usize
-    requires { ⌜ (from ≤ to) × (to ≤ length (now s)) × (length (now s) ≤ 1048576) × (at ≤ 1125899906842624) × (length (now out) ≤ 1048576) ⌝ }
-    ensures { λ r. ⌜ Stored (now (out .entry)) (now (out .exit)) at (items.item 4 (part (now (s .entry)) from to)) r ⌝ }
-{
-    let end = put(out, at + 6, &s[from..to]);
-    close(out, at, 4, end);
-    end
-}
-
-// The texts of a sequence's scalars.
-pub fn put_tags(s: &[u8], from: usize, to: usize, out: &mut [u8], at: usize) -> usize
-    requires { ⌜ (from ≤ to) × (to ≤ length (now s)) × (length (now s) ≤ 1048576) × (at ≤ 1125899906842624) × (length (now out) ≤ 1048576) ⌝ }
-    ensures { λ r. ⌜ ((at ≤ r) × (r ≤ at + 6 + 2097152 * (to - from)) × (length (now (out .exit)) ≡ length (now (out .entry)))) ⌝ }
-    ensures tags { λ r. ⌜ ((ys : Items) → Holds (now (s .entry)) from to ys → Stored (now (out .entry)) (now (out .exit)) at (tagsItem (textsOf ys)) r) ⌝ }
-{
-    let mut i = from;
-    let mut p = at + 6;
-    while i < to {
-        match render(s, i, out, p) {
-            Rendered::Text(end) => p = end,
-            Rendered::NoScalar => {}
-        }
-        let head = header_at(s, i);
-        let Header::Item {
-            kind: _,
-            from: _,
-            to: next,
-        } = head
-        else {
-            return p;
-        };
-        i = next;
-    }
-    close(out, at, 4, p);
-    p
 }
 
 fn default_of(key: &[u8]) -> Default
@@ -210,7 +191,8 @@ fn default_of(key: &[u8]) -> Default
 
 fn defaults_in(s: &[u8], from: usize, to: usize) -> Defaults
     requires { ⌜ (length (now s) ≤ 1048576) × (to ≤ length (now s)) ⌝ }
-    ensures { λ r. ⌜ ((es : Entries) → Holds (now (s .entry)) from to es → AgreesDefaults (now (s .entry)) (defaultsFrom noDefaults es) r) ⌝ }
+    ensures { λ r. ⌜ DefaultsInside (now (s .entry)) r ⌝ }
+    ensures defaults { λ r. ⌜ ((es : Entries) → Holds (now (s .entry)) from to es → AgreesDefaults (now (s .entry)) (defaultsFrom noDefaults es) r) ⌝ }
 {
     let mut at = from;
     let mut timeout = Found::Nothing;
@@ -243,46 +225,157 @@ fn defaults_in(s: &[u8], from: usize, to: usize) -> Defaults
 }
 
 fn defaults_of(s: &[u8], found: Found) -> Defaults
-    requires { ⌜ (length (now s) ≤ 1048576) ⌝ }
-    ensures { λ r. ⌜ ((o : Option Yaml) → Finds (now (s .entry)) o found → AgreesDefaults (now (s .entry)) (defaultsOf o) r) ⌝ }
+    requires { ⌜ length (now s) ≤ 1048576 ⌝ }
+    ensures { λ r. ⌜ DefaultsInside (now (s .entry)) r ⌝ }
+    ensures defaults { λ r. ⌜ ((o : Option Yaml) → Finds (now (s .entry)) o found → AgreesDefaults (now (s .entry)) (defaultsOf o) r) ⌝ }
 {
-    let Found::At(p) = found else {
-        return Defaults::Places {
-            timeout: Found::Nothing,
-            wall_budget: Found::Nothing,
-        };
-    };
-    let head = header_at(s, p);
-    let Header::Item { kind, from, to } = head else {
-        return Defaults::Refused(Refusal::DefaultsNotMapping);
-    };
-    if kind == 0 {
+    let value = value_of(s, found);
+    if value.kind == 0 {
         return Defaults::Places {
             timeout: Found::Nothing,
             wall_budget: Found::Nothing,
         };
     }
-    if kind == 5 {
-        return defaults_in(s, from, to);
+    if value.kind == 5 {
+        return defaults_in(s, value.from, value.to);
     }
     Defaults::Refused(Refusal::DefaultsNotMapping)
 }
 
-pub fn put_defaults(s: &[u8], found: Found, out: &mut [u8], at: usize) -> Part
-    requires { ⌜ (length (now s) ≤ 1048576) × (at ≤ 1125899906842624) × (length (now out) ≤ 1048576) ⌝ }
-    ensures { λ r. ⌜ PartNear (now (out .entry)) (now (out .exit)) at 8388608 r ⌝ }
-    ensures defaults { λ r. ⌜ ((o : Option Yaml) → Finds (now (s .entry)) o found → AgreesPart (defaultsOf o) defaultsItem (now (out .entry)) (now (out .exit)) at r) ⌝ }
+// 25 to 31, of the entries from `from` to `to`.
+fn read_fields(s: &[u8], from: usize, to: usize) -> TopRead
+    requires { ⌜ (length (now s) ≤ 1048576) × (to ≤ length (now s)) ⌝ }
+    ensures { λ r. ⌜ TopInside (now (s .entry)) r ⌝ }
+    ensures fields { λ r. ⌜ ((y : Yaml) (es : Entries) → Passed y es → Holds (now (s .entry)) from to es → AgreesTop (now (s .entry)) (topOf y) r) ⌝ }
 {
-    match defaults_of(s, found) {
-        Defaults::Refused(e) => Part::Refused(e),
+    let name = find(s, from, to, b"name");
+    if !is_scalar(s, name) {
+        return TopRead::Refused(Refusal::NoName);
+    }
+    let Sequence::Items(tags) = sequence_of(s, find(s, from, to, b"tags")) else {
+        return TopRead::Refused(Refusal::TagsNotSequence);
+    };
+    let Sequence::Items(fail_on) = sequence_of(s, find(s, from, to, b"fail_on")) else {
+        return TopRead::Refused(Refusal::FailOnNotSequence);
+    };
+    match defaults_of(s, find(s, from, to, b"defaults")) {
+        Defaults::Refused(e) => TopRead::Refused(e),
         Defaults::Places {
             timeout,
             wall_budget,
         } => {
-            let middle = put_optional(s, timeout, out, at + 6);
-            let end = put_optional(s, wall_budget, out, middle);
-            close(out, at, 17, end);
-            Part::Done(end)
+            let Sequence::Items(steps) = sequence_of(s, find(s, from, to, b"steps")) else {
+                return TopRead::Refused(Refusal::StepsNotSequence);
+            };
+            TopRead::Done(TopPlaces {
+                name,
+                description: find(s, from, to, b"description"),
+                tags,
+                image: find(s, from, to, b"image"),
+                setup: find(s, from, to, b"setup"),
+                timeout,
+                wall_budget,
+                fail_on,
+                steps,
+            })
         }
     }
+}
+
+// 21 to 31, of the tree that stands at the front.
+pub fn read_top(s: &[u8]) -> TopRead
+    requires { ⌜ length (now s) ≤ 1048576 ⌝ }
+    ensures { λ r. ⌜ TopInside (now (s .entry)) r ⌝ }
+    ensures top { λ r. ⌜ ((y : Yaml) → Ranged y → Stands (now (s .entry)) 0 (encode y) → AgreesTop (now (s .entry)) (topOf y) r) ⌝ }
+{
+    let tree = value_of(s, Found::At(0));
+    if tree.kind != 5 {
+        return TopRead::Refused(Refusal::DocumentNotMapping);
+    }
+    let from = tree.from;
+    let to = tree.to;
+    if !known_keys(s, from, to) {
+        return TopRead::Refused(Refusal::UnknownTopKey);
+    }
+    let schema = find(s, from, to, b"schema");
+    if !is_scalar(s, schema) {
+        return TopRead::Refused(Refusal::NoSchema);
+    }
+    if !is_schema(s, schema) {
+        return TopRead::Refused(Refusal::OtherSchema);
+    }
+    read_fields(s, from, to)
+}
+
+// The items of a sequence as they stand.
+fn put_sequence(s: &[u8], range: Range, out: &mut [u8], at: usize) -> usize
+    requires { ⌜ RangeInside (now s) range × (length (now s) ≤ 1048576) × (at ≤ 1125899906842624) × (length (now out) ≤ 1048576) ⌝ }
+    ensures { λ r. ⌜ Stored (now (out .entry)) (now (out .exit)) at (items.item 4 (part (now (s .entry)) (range .from) (range .to))) r ⌝ }
+{
+    let from = range.from;
+    let to = range.to;
+    let end = put(out, at + 6, &s[from..to]);
+    close(out, at, 4, end);
+    end
+}
+
+// The texts of a sequence's scalars.
+fn put_tags(s: &[u8], range: Range, out: &mut [u8], at: usize) -> usize
+    requires { ⌜ RangeInside (now s) range × (length (now s) ≤ 1048576) × (at ≤ 1125899906842624) × (length (now out) ≤ 1048576) ⌝ }
+    ensures { λ r. ⌜ ((at ≤ r) × (r ≤ at + 6 + 2097152 * (range .to - range .from)) × (length (now (out .exit)) ≡ length (now (out .entry)))) ⌝ }
+    ensures tags { λ r. ⌜ ((ys : Items) → Holds (now (s .entry)) (range .from) (range .to) ys → Stored (now (out .entry)) (now (out .exit)) at (tagsItem (textsOf ys)) r) ⌝ }
+{
+    let mut i = range.from;
+    let mut p = at + 6;
+    while i < range.to {
+        let item = item_at(s, i);
+        let Span::At {
+            start: _,
+            end: next,
+        } = item
+        else {
+            return p;
+        };
+        match render(s, i, out, p) {
+            Rendered::Text(end) => p = end,
+            Rendered::NoScalar => {}
+        }
+        i = next;
+    }
+    close(out, at, 4, p);
+    p
+}
+
+fn put_defaults(s: &[u8], timeout: Found, wall_budget: Found, out: &mut [u8], at: usize) -> usize
+    requires { ⌜ (length (now s) ≤ 1048576) × (at ≤ 1125899906842624) × (length (now out) ≤ 1048576) ⌝ }
+    ensures { λ r. ⌜ ((at ≤ r) × (r ≤ at + 4194310) × (length (now (out .exit)) ≡ length (now (out .entry)))) ⌝ }
+    ensures defaults { λ r. ⌜ ((d : meaning.Defaults) → Reads (now (s .entry)) scalarOf timeout (d .timeout) → Reads (now (s .entry)) scalarOf «wall_budget» (d .wallBudget) → Stored (now (out .entry)) (now (out .exit)) at (defaultsItem d) r) ⌝ }
+{
+    let middle = put_optional(s, timeout, out, at + 6);
+    let end = put_optional(s, wall_budget, out, middle);
+    close(out, at, 17, end);
+    end
+}
+
+// The fields of a record before its steps.
+pub fn put_top(s: &[u8], top: TopPlaces, out: &mut [u8], at: usize) -> usize
+    requires { ⌜ (length (now s) ≤ 1048576) × PlacesInside (now s) top × (at ≤ 70368744177664) × (length (now out) ≤ 1048576) ⌝ }
+    ensures { λ r. ⌜ ((at ≤ r) × (r ≤ at + 4398046511104) × (length (now (out .exit)) ≡ length (now (out .entry)))) ⌝ }
+    ensures fields { λ r. ⌜ ((t : Top) → TopStands (now (s .entry)) t top → Stored (now (out .entry)) (now (out .exit)) at (joined (topFields t)) r) ⌝ }
+{
+    let name = top.name;
+    let description = top.description;
+    let tags = top.tags;
+    let image = top.image;
+    let setup = top.setup;
+    let timeout = top.timeout;
+    let wall_budget = top.wall_budget;
+    let fail_on = top.fail_on;
+    let a = put_found(s, name, out, at);
+    let b = put_found(s, description, out, a);
+    let c = put_tags(s, tags, out, b);
+    let d = put_found(s, image, out, c);
+    let e = put_value(s, setup, out, d);
+    let f = put_defaults(s, timeout, wall_budget, out, e);
+    put_sequence(s, fail_on, out, f)
 }

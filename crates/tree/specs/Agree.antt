@@ -10,7 +10,7 @@ use Rattle.item.specs.Tree.{Yaml}
 use Rattle.item.specs.Encode.{encode}
 use Rattle.lines.specs.Lines.{significantLines}
 use Rattle.lines.specs.Table.{tableLines}
-use Rattle.literal.specs.Agree.{Ready}
+use Rattle.lines.specs.Ready.{Ready}
 use Rattle.tree.specs.declared.TreeRead.{TreeRead}
 use Rattle.tree.specs.declared.TreeRead.the-variants.{Done, Refused as Unread}
 use Rattle.tree.specs.Tree.{treeOf}

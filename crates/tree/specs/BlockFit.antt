@@ -20,9 +20,11 @@ use Rattle.scalar.specs.Key.{keyEnd}
 use Rattle.scalar.specs.Read.{cost, charge}
 use Rattle.flow.specs.Flow.{flow}
 use Rattle.literal.specs.Literal.{Read, leaf, literal, literalUnder, dropNewlines}
-use Rattle.block.specs.Block.{Inside, dashed, startsComplex, lineValue, child, blockKey, valueBehind, entryAt, keyAt, mapTurn, mapLines, entriesOf, blockMap, inlineMap, itemBehind, seqTurn, seqLines, itemsOf, blockSeq, blockOf, inlineOf, insideOf, within, block}
+use Rattle.lines.specs.Dash.{dashed}
+use Rattle.block.specs.Block.{Inside, startsComplex, lineValue, child, blockKey, valueBehind, entryAt, keyAt, mapTurn, mapLines, entriesOf, blockMap, inlineMap, itemBehind, seqTurn, seqLines, itemsOf, blockSeq, blockOf, inlineOf, insideOf, within, block}
 use Rattle.tree.specs.Sums.{Got}
-use Rattle.tree.specs.Strings.{Utf8, either, key-utf8, cut}
+use Rattle.utf8.specs.Utf8.{Utf8}
+use Rattle.tree.specs.Strings.{either, key-utf8, cut}
 use Rattle.tree.specs.Parts.{known, Lines, Parted, key-parted, under-body, drop-utf8}
 use Rattle.tree.specs.Fit.{Fit, fit-null, fit-str, fit-end, fit-done, fit-snoc, fit-add, fit-pair, fit-seq, fit-dict, Fine, charge-le, was-fresh}
 use Rattle.tree.specs.FlowFit.{flow-fine}

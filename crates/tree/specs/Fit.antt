@@ -11,14 +11,14 @@ use lib.Signed.{mag}
 use borrow.Author.Tests.{leb-true}
 use Rattle.refusal.specs.Base.{Answer, good, refused, _>>=_, _>>_, ensure, oneOf}
 use Rattle.refusal.specs.Tools.{good-inj, refused≢good, chosen}
-use Rattle.item.specs.Tree.{Shape, Node, Yaml, null, bool, int, str, seq, dict, Items, end, _◂_, Entries, done, pair, add, levels, hasKey}
-use Rattle.item.specs.Back.{Ranged}
+use Rattle.item.specs.Tree.{Shape, Node, Yaml, null, bool, int, str, seq, dict, Items, end, _◂_, Entries, done, pair, add, levels, hasKey, Ranged}
 use Rattle.scalar.specs.Scalars.{integer, intOr, scalarOf, nulls, trues, falses}
 use Rattle.scalar.specs.Read.{charge}
 use Rattle.flow.specs.Flow.{fresh}
 use Rattle.tree.specs.Levels.{levels-snoc, levels-add}
 use Rattle.tree.specs.Keys.{Differing, differing-snoc, differing-add}
-use Rattle.tree.specs.Strings.{Utf8, either, Texts, texts-snoc, texts-add}
+use Rattle.utf8.specs.Utf8.{Utf8}
+use Rattle.tree.specs.Strings.{either, Texts, texts-snoc, texts-add}
 use Rattle.tree.specs.Integers.{integer-mag, ranged-snoc, ranged-add}
 
 -- a tree of at most `l` levels, whose keys differ in each mapping, whose strings and keys are UTF-8 and whose integers have 64 bits

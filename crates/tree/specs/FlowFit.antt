@@ -17,7 +17,8 @@ use Rattle.scalar.specs.declared.Role.the-variants.{AsValue, AsKey}
 use Rattle.scalar.specs.Scalars.{text}
 use Rattle.scalar.specs.Read.{cost, Got, Reader, charge, scalar, plain, string, skipSpaces, stop}
 use Rattle.flow.specs.Flow.{stuck, itemTurn, items, behindColon, entryValue, entryTurn, entries, flowSeq, flowMap, node, value, flow}
-use Rattle.tree.specs.Strings.{Utf8, key-utf8, cut}
+use Rattle.utf8.specs.Utf8.{Utf8}
+use Rattle.tree.specs.Strings.{key-utf8, cut}
 use Rattle.tree.specs.Parts.{known, skip-utf8, plain-utf8, double-utf8, single-utf8}
 use Rattle.tree.specs.Fit.{Fit, fit-null, fit-str, fit-scalar, fit-end, fit-done, fit-snoc, fit-add, fit-seq, fit-dict, Fine, charge-le, was-fresh}
 

@@ -10,8 +10,7 @@ use lib.Signed.{mag}
 use borrow.Author.Tests.{leb-true, ltb-true}
 use Rattle.refusal.specs.Base.{ch}
 use Rattle.refusal.specs.Tools.{chosen}
-use Rattle.item.specs.Tree.{Yaml, Items, end, _▸_, _◂_, Entries, done, pair, add}
-use Rattle.item.specs.Back.{Ranged}
+use Rattle.item.specs.Tree.{Yaml, Items, end, _▸_, _◂_, Entries, done, pair, add, Ranged}
 use Rattle.scalar.specs.Scalars.{digits, positive, negative, integer}
 
 pub ranged-snoc : (ys : Items) (y : Yaml) → Ranged ys → Ranged y → Ranged (ys ◂ y)

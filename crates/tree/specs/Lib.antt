@@ -1,7 +1,6 @@
 pub mod Tree
 pub mod Agree
 pub mod Reading
-pub mod Table
 pub mod Sums
 pub mod Levels
 pub mod Keys

@@ -22,7 +22,8 @@ use Rattle.lines.specs.declared.Literal.{Literal}
 use Rattle.lines.specs.declared.Literal.the-variants.{Closed, Under}
 use Rattle.lines.specs.Lines.{Line, beginsNewline, prepend, splitLines, indentOf, tabbed, startsComment, placeAfter, uncommented, stripComment, significant, isMarker, Event, entry, bad, eventsOf, literalAfter, blanksBefore, bodyOf, scan, collect, significantLines}
 use Rattle.literal.specs.Literal.{literalLine, literalLines, literalUnder, allNewlines, dropNewlines}
-use Rattle.tree.specs.Strings.{Utf8, either, joined, put, cut}
+use Rattle.utf8.specs.Utf8.{Utf8}
+use Rattle.tree.specs.Strings.{either, joined, put, cut}
 
 -- a byte that was found to be one of ASCII
 pub known : (b c : ℕ) → c < 0x80 → eqb b c ≡ true → b < 0x80

@@ -1,15 +1,14 @@
 -- What each step of reading a tree comes to. Assumes nothing.
-use mathlib.Core.Path.{_≡_, refl, sym, ap, _∙_, subst}
-use Prim.Native.Nat.{ℕ, _+_, _-_, _≤_, _<_, min}
+use mathlib.Core.Path.{_≡_, sym, ap, _∙_, subst}
+use Prim.Native.Nat.{ℕ, _+_, _≤_, _<_, min}
 use native.Mathlib.Omega.{arith}
 use mathlib.Core.List.{List, [], _∷_, _++_, append-assoc}
-use mathlib.Core.Bool.{Bool, true, false}
-use lib.Dec.{leb}
+use mathlib.Core.Bool.{true, false}
 use lib.ListN.{length, take, drop, replicate, length-append, length-drop, take-append-drop}
 use lib.Seq.{sets, sets-eq, length-take-le, drop-append-le}
 use borrow.Author.Tests.{le-leb, lt-leb}
 use Rattle.refusal.specs.Base.{Answer, good, refused, _>>=_, _>>_, ensure}
-use Rattle.refusal.specs.Told.{toldOf, refusal}
+use Rattle.refusal.specs.Told.{refusal}
 use Rattle.refusal.specs.declared.Refusal.{Refusal}
 use Rattle.utf8.specs.Utf8.{isUtf8}
 use Rattle.item.specs.Tree.{Yaml}
@@ -18,8 +17,8 @@ use Rattle.lines.specs.Lines.{Line, significantLines}
 use Rattle.lines.specs.Table.{tableLines, Filled, Agrees}
 use Rattle.lines.specs.declared.LinesAnswer.{LinesAnswer}
 use Rattle.lines.specs.declared.LinesAnswer.the-variants.{Read as Lined, Refused as Unlined}
-use Rattle.literal.specs.Agree.{Ready, WroteBlock}
-use Rattle.literal.specs.Ends.{lines-end}
+use Rattle.lines.specs.Ends.{ready}
+use Rattle.literal.specs.Agree.{WroteBlock}
 use Rattle.block.specs.Block.{block}
 use Rattle.tree.specs.declared.TreeRead.{TreeRead}
 use Rattle.tree.specs.declared.TreeRead.the-variants.{Done, Refused as Unread}
@@ -76,9 +75,6 @@ module _ (text table : List ℕ) (r : LinesAnswer) (w : Agrees text table r) whe
 
   pub lines-stopped : (z : Refusal) → r ≡ Unlined z → significantLines text ≡ refusal z
   lines-stopped z e = subst (Agrees text table) e w
-
-pub ready : (text table : List ℕ) (n : ℕ) → length text ≤ 65535 → length table ≡ 8192 → Filled text table n → Ready text table n
-ready text table n h k f = record { short = h; whole = k; few = f .few; placed = f .placed; ended = lines-end text (tableLines text table n) (f .lines) }
 
 pub agrees-tree : (x y : Answer Yaml) (old new : List ℕ) (r : TreeAnswer) → x ≡ y → AgreesTree y old new r → AgreesTree x old new r
 agrees-tree x y old new (Read n) e w = record { tree = w .tree; is = e ∙ w .is; stored = w .stored; size = w .size; fits = w .fits }

@@ -7,16 +7,15 @@ use mathlib.Core.Bool.{Bool, true, false}
 use lib.Dec.{leb}
 use lib.ListN.{length}
 use Rattle.refusal.specs.Base.{good, refused, _>>_, ensure}
-use Rattle.refusal.specs.Tools.{good-inj, refused≢good, bound, bound′}
-use Rattle.utf8.specs.Utf8.{isUtf8}
-use Rattle.item.specs.Tree.{Yaml, levels}
+use Rattle.refusal.specs.Tools.{ensured, good-inj, refused≢good, bound, bound′}
+use Rattle.utf8.specs.Utf8.{isUtf8, Utf8}
+use Rattle.item.specs.Tree.{Yaml, levels, Ranged}
 use Rattle.item.specs.Encode.{encode}
-use Rattle.item.specs.Back.{Ranged}
 use Rattle.lines.specs.Lines.{Line, significantLines}
 use Rattle.block.specs.Block.{block}
 use Rattle.tree.specs.Tree.{tree, treeOf, admitted, nothingLeft}
 use Rattle.tree.specs.Keys.{Differing}
-use Rattle.tree.specs.Strings.{Utf8, Texts}
+use Rattle.tree.specs.Strings.{Texts}
 use Rattle.tree.specs.Parts.{Lines, lines-utf8}
 use Rattle.tree.specs.Fit.{Fit}
 use Rattle.tree.specs.BlockFit.{block-fine}
@@ -26,14 +25,9 @@ use Rattle.tree.specs.Sums.{block-sum}
 abbrev pub Sound : Yaml → Type 0
 Sound y = Fit 32 y
 
-ensured : (t : Bool) (k : ℕ) (x : Unit {0}) → ensure t k 0 0 ≡ good x → t ≡ true
-unfolding ensure
-ensured true k x e = refl
-ensured false k x e = refused≢good x k 0 0 e
-
 admitted-utf8 : (text : List ℕ) (x : Unit {0}) → admitted text ≡ good x → Utf8 text
 unfolding admitted
-admitted-utf8 text x e = bound′ (ensure (leb (length text) 65535) 1 0 0) _ x e λ p. ensured (isUtf8 text) 2 x p
+admitted-utf8 text x e = bound′ (ensure (leb (length text) 65535) 1 0 0) _ x e λ p. ensured (isUtf8 text) 2 0 0 x p
 
 module _ (work : ℕ) (text : List ℕ) (y : Yaml) (e : tree work text ≡ good y) where
   -- a tree is the block of the text's lines

@@ -9,13 +9,10 @@ use lib.IntN.{ℤ, pos, negsuc}
 use borrow.Author.Tests.{ltb-true}
 use Rattle.refusal.specs.Base.{good, given, if_then_else_, ch, bytes}
 use Rattle.refusal.specs.Tools.{good-inj, refused≢good}
-use Rattle.utf8.specs.Utf8.{isUtf8}
+use Rattle.utf8.specs.Utf8.{isUtf8, Utf8}
 use Rattle.utf8.specs.Utf8Laws.{utf8-append, utf8-nil, utf8-ascii, utf8-cut}
 use Rattle.item.specs.Tree.{Shape, Node, Yaml, null, bool, int, str, seq, dict, Items, end, _▸_, _◂_, Entries, done, pair, add}
 use Rattle.scalar.specs.Scalars.{text, boolText, intText, decimalOf}
-
-abbrev pub Utf8 : List ℕ → Type 0
-Utf8 s = isUtf8 s ≡ true
 
 -- every string and every key
 abbrev pub Texts : {s : Shape} → Node s → Type 0

@@ -21,7 +21,8 @@ use Rattle.scalar.specs.Read.{cost, charge}
 use Rattle.flow.specs.Flow.{flow, fresh}
 use Rattle.flow.specs.Sums.{charged, flow-sum, key-weight, size-snoc, size-add}
 use Rattle.literal.specs.Literal.{Read, leaf, literal}
-use Rattle.block.specs.Block.{Inside, dashed, startsComplex, lineValue, child, blockKey, valueBehind, entryAt, keyAt, mapTurn, mapLines, entriesOf, blockMap, inlineMap, itemBehind, seqTurn, seqLines, itemsOf, blockSeq, blockOf, inlineOf, insideOf, within, block}
+use Rattle.lines.specs.Dash.{dashed}
+use Rattle.block.specs.Block.{Inside, startsComplex, lineValue, child, blockKey, valueBehind, entryAt, keyAt, mapTurn, mapLines, entriesOf, blockMap, inlineMap, itemBehind, seqTurn, seqLines, itemsOf, blockSeq, blockOf, inlineOf, insideOf, within, block}
 
 -- what was read, the running sum and the lines left
 abbrev pub Got : Type 0 → Type 0

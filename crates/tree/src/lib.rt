@@ -3,7 +3,7 @@ ghost use mathlib.Core.Path.{_≡_};
 ghost use Prim.Native.Nat.{_≤_, min};
 ghost use lib.ListN.{length};
 ghost use Rattle.lines.specs.Table.{tableLines};
-ghost use Rattle.literal.specs.Agree.{Ready};
+ghost use Rattle.lines.specs.Ready.{Ready};
 ghost use Rattle.tree.specs.Tree as definition;
 ghost use Rattle.tree.specs.Agree.{AgreesTree, AgreesRead, answerOf, sizeOf, left};
 use block::block;

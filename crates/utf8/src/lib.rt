@@ -5,7 +5,7 @@ ghost use mathlib.Core.List.{[]};
 ghost use Prim.Native.Nat.{_+_, _≤_, _<_};
 ghost use lib.ListN.{length};
 ghost use Rattle.utf8.specs.Utf8.{isUtf8};
-ghost use Rattle.utf8.specs.White.{white1, white2, white3, in2000, whiteLen, leading, trimEnd};
+ghost use Rattle.utf8.specs.White.{white1, white2, white3, in2000, whiteLen, leading, trimEnd, trim};
 ghost use Rattle.utf8.specs.Part.{part};
 ghost use Rattle.utf8.specs.Steps.{dueOf, onOf, Follows, Ends};
 
@@ -261,4 +261,14 @@ pub fn trim_end(s: &[u8], from: usize, to: usize) -> usize
         }
         end -= n;
     }
+}
+
+// A text without the white space at both ends.
+pub fn trimmed(s: &[u8]) -> &[u8]
+    ensures { λ r. ⌜ now r ≡ trim (now (s .entry)) ⌝ }
+    ensures within { λ r. ⌜ length (now r) ≤ length (now (s .entry)) ⌝ }
+{
+    let from = trim_start(s, 0, s.len());
+    let to = trim_end(s, from, s.len());
+    &s[from..to]
 }

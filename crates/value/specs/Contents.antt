@@ -16,7 +16,7 @@ use Rattle.item.specs.Tree.{Yaml, Items, Entries, int, seq, dict}
 use Rattle.item.specs.Encode.{number}
 use Rattle.item.specs.Decode.{_>>=_, header, nothing, unflag, untwos, unint, decodeItems, decodeEntries, contentOf, node, decode}
 use Rattle.item.specs.Exact.{Bytes, number-small}
-use Rattle.value.specs.Sound.{sound}
+use Rattle.meaning.specs.Sound.{sound}
 use Rattle.value.specs.Tree.{tree, inside, accepts, acceptsItems, acceptsEntries}
 
 -- bytes by their places

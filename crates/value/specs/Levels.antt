@@ -12,12 +12,12 @@ use borrow.Author.Tests.{ltb-true}
 use Rattle.refusal.specs.Base.{if_then_else_}
 use Rattle.refusal.specs.Tools.{chosen}
 use Rattle.utf8.specs.Utf8.{isUtf8}
-use Rattle.item.specs.Tree.{Shape, Node, Yaml, null, bool, int, str, seq, dict, Items, end, _▸_, Entries, done, pair, hasKey, levels}
+use Rattle.item.specs.Tree.{Shape, Node, Yaml, null, bool, int, str, seq, dict, Items, end, _▸_, Entries, done, pair, hasKey, levels, Ranged}
 use Rattle.item.specs.Encode.{encode}
-use Rattle.item.specs.Decode.{_>>=_, Decoder, header, nothing, unflag, unint, unkey, decodeItems, decodeEntries, contentOf, node, decode}
+use Rattle.item.specs.Decode.{_>>=_, Decoder, header, unflag, unint, unkey, decodeItems, decodeEntries, contentOf, node, decode}
 use Rattle.item.specs.Exact.{got, none≢, nothing-inv, and-left, and-right}
-use Rattle.item.specs.Back.{Ranged, back}
-use Rattle.value.specs.Sound.{sound}
+use Rattle.item.specs.Back.{back}
+use Rattle.meaning.specs.Sound.{sound}
 use Rattle.value.specs.Tree.{tree}
 
 abbrev Low : ℕ → Decoder Yaml → Type 0

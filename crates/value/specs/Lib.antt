@@ -1,4 +1,3 @@
-pub mod Sound
 pub mod Tree
 pub mod Walks
 pub mod Contents

@@ -7,7 +7,7 @@ use lib.ListN.{length}
 use Rattle.refusal.specs.Base.{if_then_else_, maybe}
 use Rattle.item.specs.Tree.{Yaml}
 use Rattle.item.specs.Decode.{_>>=_, Decoder, decodeItems, decodeEntries, contentOf, decode}
-use Rattle.value.specs.Sound.{sound}
+use Rattle.meaning.specs.Sound.{sound}
 
 -- a sound tree of at most so many levels, and what is left behind it
 unfoldable pub tree : ℕ → Decoder Yaml

@@ -15,18 +15,11 @@ use Rattle.item.specs.Tree.{Yaml, Items, Entries, _▸_, pair, hasKey}
 use Rattle.item.specs.Encode.{encode}
 use Rattle.item.specs.Decode.{_>>=_, header, unkey, decodeItems, decodeEntries, decode}
 use Rattle.item.specs.Exact.{Bytes, got, none≢, entries-inv, decode-exact}
-use Rattle.item.specs.Places.{headerAt, found, header-places}
-use Rattle.item.specs.declared.Header.the-variants.{Item}
-use Rattle.value.specs.Sound.{sound}
+use Rattle.meaning.specs.Sound.{sound}
 use Rattle.value.specs.Tree.{tree, acceptsItems, acceptsEntries}
 use Rattle.value.specs.Walks.{Read, entriesIn, Onward}
 
--- ---- headers by their places
-
-pub header-item : (s : List ℕ) (at : ℕ) {kind from to : ℕ} → Item kind from to ≡ headerAt s at
-    → header (drop at s) ≡ some (kind, take (to - from) (drop from s), drop to s)
-unfolding found
-header-item s at h = header-places s at ∙ ap (found s) (sym h)
+-- ---- parts
 
 -- up to the end
 pub whole-rest : (s : List ℕ) (i : ℕ) → take (length s - i) (drop i s) ≡ drop i s

@@ -7,7 +7,7 @@ use mathlib.Core.Option.{none, some}
 use lib.ListN.{length, drop}
 use Rattle.refusal.specs.Base.{maybe}
 use Rattle.item.specs.Decode.{Decoder, decodeEntries, decode}
-use Rattle.value.specs.Sound.{sound}
+use Rattle.meaning.specs.Sound.{sound}
 use Rattle.value.specs.declared.End.{End}
 use Rattle.value.specs.declared.End.the-variants.{At, Nowhere}
 

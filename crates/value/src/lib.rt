@@ -5,9 +5,9 @@ ghost use Prim.Native.Nat.{_≤_, _<_};
 ghost use lib.ListN.{length};
 ghost use Rattle.value.specs.Tree.{tree, accepts, acceptsItems, acceptsEntries};
 ghost use Rattle.value.specs.Walks.{Walks, Follows};
+use entries::has_key;
 use item::Header;
 use item::header_at;
-use keys::has_key;
 use utf8::is_utf8;
 
 // Where an item ends that was looked for and found good.

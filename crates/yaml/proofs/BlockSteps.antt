@@ -4,7 +4,7 @@ use Prim.Native.Nat.{ℕ, zero, suc, _+_, _-_, _≤_, _<_}
 use native.Mathlib.Omega.{arith}
 use mathlib.Core.List.{List, [], _∷_, _++_, append-assoc, append-nil}
 use mathlib.Core.Bool.{true, false}
-use mathlib.Core.Option.{none, some, Option·none-ne-some}
+use mathlib.Core.Option.{some, Option·none-ne-some}
 use lib.Dec.{T, eqb}
 use lib.ListN.{length, drop, length-append, length-replicate}
 use lib.Seq.{take-append-seam}
@@ -24,8 +24,9 @@ use Rattle.scalar.specs.declared.Role.the-variants.{AsValue, AsKey}
 use Rattle.flow.specs.Flow.{flow, fresh}
 use Rattle.yaml.specs.Scalars.{flow-out}
 use Rattle.literal.specs.Literal.{leaf, literal}
-use Rattle.block.specs.Block.{dashed, keyAt, startsComplex, lineValue, child, blockKey, valueBehind, entryAt, mapTurn, mapLines, entriesOf, blockMap, inlineMap, itemBehind, seqTurn, seqLines, itemsOf, blockSeq, within, block}
-use Rattle.block.specs.Agree.{opens}
+use Rattle.lines.specs.Dash.{dashed}
+use Rattle.block.specs.Block.{keyAt, startsComplex, lineValue, child, blockKey, valueBehind, entryAt, mapTurn, mapLines, entriesOf, blockMap, inlineMap, itemBehind, seqTurn, seqLines, itemsOf, blockSeq, within, block}
+use Rattle.block.specs.Parts.{opens-dash, opens-key, opens-flow}
 use Rattle.block.specs.Steps.{within-levels, block-line, block-sequence, block-mapping, child-end, child-deeper, child-none, entry-whole, charged, item-child, item-line, item-inline}
 use Rattle.yaml.specs.Characters.{whites, spaces}
 use Rattle.yaml.specs.Represent.{Rep, asYaml}
@@ -138,17 +139,13 @@ module _ (cap : ℕ) where
   unfolding lineValue _>>=_
   line-value l n sum d k y e ls v h = rw (flow-reads cap n l sum AsValue d k y e v h)
 
-  opens-not : (t : List ℕ) → dashed t ≡ false → keyEnd t ≡ none → opens t ≡ false
-  unfolding opens maybe
-  opens-not t e f = rw (e, f)
-
   pub block-flow : (m : ℕ) (w : List ℕ) (b : Break) (cs : List Row) {t : List ℕ} {r : Rep} (d : Flow flow-out t r) → keptFlow d → noKey t → (y : Yaml) → asYaml r ≡ some y → Comments cs
       → BlockTo m (node m t w b ∷ cs) y
   unfolding linesOf noKey
   block-flow m w b cs {t = t} d p k y e c num rest h l sum v g =
       let f : Front t = front-of d in
       let n : dashed t ≡ false = ap dashed (f .is ∙ sym (append-nil (f .byte ∷ f .rest))) ∙ f .no-dash [] in
-      rw (comments-none c (suc num)) (block-line cap l sum (line m t num ∷ rest) (line m t num) rest refl (opens-not t n k) ∙ line-value l num sum d p y e rest v g)
+      rw (comments-none c (suc num)) (block-line cap l sum (line m t num ∷ rest) (line m t num) rest refl (opens-flow t n k) ∙ line-value l num sum d p y e rest v g)
 
   -- ---- keys
 
@@ -330,14 +327,10 @@ module _ (cap : ℕ) where
       rw (charged cap sum (omega arith), e l (sum + 6) v (omega arith), entries-to l n (sum + 6 + (6 + length k + size y)) left rest es m w (omega arith), a)
       (ap (λ (s : ℕ). good (Tree.dict (pair k y es), s, rest)) (omega arith))
 
-  opens-by : (t : List ℕ) (i : ℕ) → dashed t ≡ false → keyEnd t ≡ some i → opens t ≡ true
-  unfolding opens maybe
-  opens-by t i e f = rw (e, f)
-
   pub block-map : (n num : ℕ) (ls rest : List Line) (es : Entries) → MapOf n num ls rest es → (l sum : ℕ) → suc (levels es) ≤ l → sum + (6 + size es) ≤ cap
       → block cap l sum ls ≡ good (Tree.dict es, sum + (6 + size es), rest)
   block-map n num ls rest es m l sum v g =
-      block-mapping cap l sum ls (line n (m .text) num) (m .more) (m .is) (opens-by (m .text) (m .split) (m .no-dash) (m .found)) (m .no-dash) (λ z. omega arith)
+      block-mapping cap l sum ls (line n (m .text) num) (m .more) (m .is) (m .split) (opens-key (m .text) (m .no-dash) (m .split) (m .found)) (λ z. omega arith)
       ∙ map-whole (l - 1) n sum ls rest es (map-to n num ls rest es m) (omega arith) g
 
   -- the last entry, and one before others
@@ -462,7 +455,7 @@ module _ (cap : ℕ) where
   pub block-seq : (m num : ℕ) (ls rest : List Line) (ys : Items) → SeqOf m num ls rest ys → (l sum : ℕ) → suc (levels ys) ≤ l → sum + (6 + size ys) ≤ cap
       → block cap l sum ls ≡ good (Tree.seq ys, sum + (6 + size ys), rest)
   block-seq m num ls rest ys q l sum v g =
-      block-sequence cap l sum ls (line m (q .text) num) (q .more) (q .is) (q .dash) (λ z. omega arith)
+      block-sequence cap l sum ls (line m (q .text) num) (q .more) (q .is) (opens-dash (q .text) (q .dash)) (λ z. omega arith)
       ∙ seq-whole (l - 1) m sum ls rest ys (q .to) (omega arith) g
 
   -- ---- items

@@ -10,12 +10,12 @@ use Rattle.refusal.specs.Base.{Answer, good, _>>=_, _>>_, ensure, if_then_else_
 use Rattle.refusal.specs.Tools.{refused≢good, bound}
 use Rattle.item.specs.Tree.{Yaml, Items, end, _▸_, Entries}
 use Rattle.item.specs.Tree as Tree
-use Rattle.record.specs.Meaning.{Meaning, builtInSteps}
-use Rattle.record.specs.Record.{recordOf}
+use Rattle.meaning.specs.Meaning.{Meaning, builtInSteps}
+use Rattle.meaning.specs.Record.{recordOf}
 use Rattle.step_lines.specs.StepLines.{stepLines, headLine, tailLines}
-use Rattle.nodes.specs.Meanings.{meaningOf, fieldsOf, stepsFrom, stepAt, stepOf, expectOf, commandOf, expectAllowed}
+use Rattle.meaning.specs.Meanings.{meaningOf, stepsFrom, stepAt, stepOf, expectOf, commandOf, expectAllowed}
 use Rattle.scenario.specs.Scenario.{Reading, readingOf, scenario, linesFor, output, recordBytes}
-use Rattle.scenario.specs.Job.{Promised}
+use Rattle.scenario.proofs.Job.{Promised}
 use Rattle.scenario.specs.declared.ScenarioAnswer.{ScenarioAnswer}
 use Rattle.yaml.specs.Represent.{Rep, treeOf}
 use Rattle.yaml.specs.Block.{Stream}
@@ -81,15 +81,9 @@ unfolding stepsFrom
 steps-from n ls ls′ end = λ x p. p
 steps-from n ls ls′ (y ▸ ys) = binds _ _ _ _ (step-at (headLine ls) n (headLine ls′) n y) λ s. binds _ _ _ _ (steps-from (suc n) (tailLines ls) (tailLines ls′) ys) λ ss x p. p
 
-fields-of : (ls ls′ : List ℕ) (es : Entries) → Keeps (fieldsOf ls es) (fieldsOf ls′ es)
-unfolding fieldsOf
-fields-of ls ls′ es =
-    binds _ _ _ _ (λ x p. p) λ a. binds _ _ _ _ (λ x p. p) λ b. binds _ _ _ _ (λ x p. p) λ c. binds _ _ _ _ (λ x p. p) λ d. binds _ _ _ _ (λ x p. p) λ ys.
-    binds _ _ _ _ (steps-from 1 ls ls′ ys) λ ss x p. p
-
 pub meaning-lines : (ls ls′ : List ℕ) (y : Yaml) → Keeps (meaningOf ls y) (meaningOf ls′ y)
 unfolding meaningOf
-meaning-lines ls ls′ y = binds _ _ _ _ (λ x p. p) λ es. thens _ _ _ _ (λ x p. p) (thens _ _ _ _ (λ x p. p) (fields-of ls ls′ es))
+meaning-lines ls ls′ y = binds _ _ _ _ (λ x p. p) λ t. binds _ _ _ _ (steps-from 1 ls ls′ (t .steps)) λ ss x p. p
 
 -- ---- the meaning
 

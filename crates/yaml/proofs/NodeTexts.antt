@@ -12,13 +12,12 @@ use Rattle.utf8.specs.Utf8.{within}
 use Rattle.utf8.specs.White.{white1, white2, in2000, white3, whiteAt, leadingFrom, leading, trimStart, allWhite, trimEnd, trim}
 use Rattle.utf8.specs.Laws.{leading-le, end-le, all-leading}
 use Rattle.item.specs.Tree.{many, keyed}
-use Rattle.block.specs.Block.{dashed}
-use Rattle.yaml.specs.Characters.{nsChar, among}
+use Rattle.lines.specs.Dash.{dashed}
+use Rattle.yaml.specs.Characters.{nsChar, among, white, whites, spaces}
 use Rattle.yaml.specs.Scalars.{Context, flow-out, plain, plainFirst, plainSafe, safeNext}
 use Rattle.yaml.proofs.PlainReads.{by-first, ns-no-space}
 use Rattle.yaml.proofs.Tests.{and-two}
 use Rattle.yaml.proofs.Whites.{white-byte}
-use Rattle.yaml.specs.Characters.{white, whites, spaces}
 use Rattle.yaml.specs.Represent.{Graph, Rep}
 use Rattle.yaml.specs.Flow.{Flow, f-plain, f-quoted, f-seq, f-map, q-double, q-single, FlowItems, s-close, s-last, s-more, FlowPairs}
 use Rattle.yaml.specs.Flow as F

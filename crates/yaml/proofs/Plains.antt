@@ -6,7 +6,7 @@ use mathlib.Core.Bool.{Bool, true, false, _&&_, _||_, not}
 use lib.Dec.{T, eqb}
 use borrow.Author.Tests.{eqb-true}
 use Rattle.refusal.specs.Base.{if_then_else_, ch, empty, Base-open}
-use Rattle.yaml.specs.Scalars.{Context, plainFirst, plainChar, PlainRest, p-end, p-char, p-space, p-tab, Plain, plain}
+use Rattle.yaml.specs.Scalars.{Context, plainFirst, plainChar, PlainRest, p-end, p-char, p-space, p-tab, Plain, plain, Scalars-open as Texts-open}
 use Rattle.yaml.proofs.Tests.{and-two}
 use Rattle.utf8.specs.Utf8.{Utf8-open}
 use Rattle.utf8.specs.Points.{Points-open}
@@ -18,7 +18,6 @@ use Rattle.lines.specs.Lines.{Lines-open}
 use Rattle.yaml.specs.Characters.{Characters-open}
 use Rattle.yaml.specs.Represent.{Represent-open}
 use Rattle.yaml.specs.Core.{Core-open}
-use Rattle.yaml.specs.Scalars.{Scalars-open as Texts-open}
 use Rattle.yaml.specs.Flow.{Flow-open}
 use Rattle.yaml.specs.Rows.{Rows-open}
 use Rattle.yaml.specs.Block.{Block-open}

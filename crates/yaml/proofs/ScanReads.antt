@@ -17,11 +17,10 @@ use Rattle.utf8.specs.Laws.{leading-le, end-le, end-empty}
 use Rattle.lines.specs.Lines.{line, Event, entry, indentOf, tabbed, startsComment, uncommented, stripComment, significant, isMarker, opensLiteral, eventsOf, literalOf, literalAfter, blanksBefore, bodyOf, scan}
 use Rattle.lines.specs.Laws.{tab-none, tab-here, tab-on}
 use Rattle.lines.specs.declared.Literal.the-variants.{Closed, Under}
-use Rattle.yaml.specs.Characters.{among}
+use Rattle.yaml.specs.Characters.{among, white, whites, nbChars, spaces}
 use Rattle.yaml.specs.Scalars.{Context, Plain, plain}
 use Rattle.yaml.proofs.Tests.{is-true, is-false, and-two, or-two, neither}
 use Rattle.yaml.proofs.Whites.{white-byte}
-use Rattle.yaml.specs.Characters.{white, whites, nbChars, spaces}
 use Rattle.yaml.specs.Represent.{Graph, Rep}
 use Rattle.yaml.specs.Flow.{Quoted, q-double, q-single, Flow, f-plain, f-quoted, f-seq, f-map}
 use Rattle.yaml.specs.Rows.{Break, Row, node, note, body, blank, raw, commentLine, tail, Comments, c-end, c-more}

@@ -11,12 +11,11 @@ use borrow.Author.Tests.{eqb-true, le-leb}
 use Rattle.refusal.specs.Base.{if_then_else_, ch, bytes, empty}
 use Rattle.item.specs.Tree.{many, keyed}
 use Rattle.lines.specs.Lines.{beginsNewline, prepend, splitLines}
-use Rattle.yaml.specs.Characters.{nsChar, nbChar, among}
+use Rattle.yaml.specs.Characters.{nsChar, nbChar, among, white, whites, nbChars, spaces}
 use Rattle.yaml.specs.Scalars.{Context, flow-out, flow-in, plainSafe, safeNext, plainFirst, plainChar, PlainRest, p-end, p-char, p-space, p-tab, Plain, plain, Escape, esc-n, esc-t, esc-r, esc-0, esc-quote, esc-back, esc-slash, DoubleText, d-end, d-char, d-escaped, SingleText, s-end, s-char, s-twice}
 use Rattle.yaml.proofs.Tests.{and-two, or-two, differs}
 use Rattle.yaml.proofs.PlainReads.{by-first}
 use Rattle.yaml.proofs.Whites.{white-byte}
-use Rattle.yaml.specs.Characters.{white, whites, nbChar, nbChars, spaces}
 use Rattle.yaml.specs.Represent.{Graph, Rep}
 use Rattle.yaml.specs.Flow.{Quoted, q-double, q-single, Flow, f-plain, f-quoted, f-seq, f-map, FlowItems, s-close, s-last, s-more, FlowPairs, FlowPair, p-value, p-adjacent, p-null}
 use Rattle.yaml.specs.Flow as F

@@ -6,9 +6,8 @@ use mathlib.Core.List.{List, [], _∷_, _++_}
 use mathlib.Core.Bool.{Bool, false}
 use lib.Dec.{T}
 use Rattle.refusal.specs.Base.{ch, bytes}
-use Rattle.yaml.specs.Characters.{among}
+use Rattle.yaml.specs.Characters.{among, spaces}
 use Rattle.yaml.specs.Scalars.{Context, flow-in, Plain, DoubleText, SingleText}
-use Rattle.yaml.specs.Characters.{spaces}
 use Rattle.yaml.specs.Represent.{Graph, Rep, null, str, seq, map, end, _▸_, done, pair}
 use Rattle.yaml.specs.Core.{Core}
 use Rattle.item.specs.Tree.{many, keyed}

@@ -9,9 +9,9 @@ use Rattle.refusal.specs.Base.{good}
 use Rattle.item.specs.Tree.{Yaml, levels}
 use Rattle.item.specs.Encode.{encode}
 use Rattle.tree.specs.Tree.{tree}
-use Rattle.record.specs.Meaning.{Meaning}
-use Rattle.record.specs.Record.{recordOf}
-use Rattle.nodes.specs.Meanings.{meaningOf}
+use Rattle.meaning.specs.Meaning.{Meaning}
+use Rattle.meaning.specs.Record.{recordOf}
+use Rattle.meaning.specs.Meanings.{meaningOf}
 use Rattle.scenario.specs.Scenario.{Reading, scenario}
 use Rattle.yaml.specs.Represent.{Rep, treeOf}
 use Rattle.yaml.specs.Rows.{Row, node, note, body, blank}

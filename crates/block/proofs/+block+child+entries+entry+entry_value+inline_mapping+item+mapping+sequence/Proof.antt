@@ -4,19 +4,19 @@ use mathlib.Core.Path.{_≡_, refl, sym, ap, _∙_, subst}
 use Prim.Native.Nat.{ℕ, suc, _+_, _*_, _-_, _≤_, _<_}
 use native.Mathlib.Omega.{arith}
 use lib.ListN.{length, drop}
-use borrow.Author.Tests.{not-true, not-false}
 use Rattle.refusal.specs.Base.{refused}
 use Rattle.utf8.specs.White.{trim, trimStart}
-use Rattle.lines.specs.Table.{tableLines, lineAt}
+use Rattle.lines.specs.Table.{tableLines, lineAt, startAt, numberAt}
+use Rattle.lines.specs.Rows.{rows-end, in-lines, in-table, rows-next, entry-inside}
 use Rattle.scalar.specs.Key.{keyEnd}
+use Rattle.scalar.specs.Code.{foundOf}
 use Rattle.literal.specs.Agree.{AgreesBlock}
-use Rattle.literal.specs.Rows.{rows-next}
 use Rattle.block.specs.Block.{valueBehind, entriesOf, itemBehind, within}
-use Rattle.block.specs.Agree.{keyHere, startAt, numberAt, columnAt, textAt}
+use Rattle.block.specs.Agree.{keyHere, columnAt, textAt}
 use Rattle.block.specs.Parts.{found-at, found-nothing}
 use Rattle.block.specs.Steps.{agrees-block, block-done, block-stopped, key-done, key-stopped, entry-done, entry-stopped, block-end, child-end}
 use Rattle.block.specs.Turns.{Mapped, mapped-start, mapped-end, map-stops, map-twice, map-on, Listed, listed-start, list-full, list-close, list-stops, list-on, map-full, map-refused, map-close, inline-full, inline-stops, inline-later, inline-twice, inline-close}
-use Rattle.block.specs.Places.{all-read, in-lines, in-table, key-there, dash-there, dash-text, key-splits, entry-as, here, ordered, inside, column-is, block-line-at, block-deep-at, block-sequence-at, block-mapping-at, child-deeper-at, child-none-at, value-nothing-at, value-literal-at, value-stripped-at, value-line-at, entry-unkeyed-at, entry-unvalued-at, entry-done-at, item-child-at, item-line-at, item-splits, item-deep-at, item-inline-at}
+use Rattle.block.specs.Places.{key-there, dash-there, dash-text, key-splits, entry-as, column-is, key-first, block-line-at, sequence-deep-at, block-sequence-at, mapping-deep-at, block-mapping-at, child-deeper-at, child-none-at, value-nothing-at, value-literal-at, value-stripped-at, value-line-at, entry-unkeyed-at, entry-unvalued-at, entry-done-at, item-child-at, item-line-at, item-splits, item-deep-at, item-inline-at}
 use borrow.Fn.Kinds.{In}
 use borrow.Fn.PlainCycle.{Measures, is, falls, and}
 use Rattle.block.proofs.block.Reads as block
@@ -48,19 +48,19 @@ use Rattle.block.proofs.sequence.Kinds as sequence-kinds
 use Rattle.block.proofs.+block+child+entries+entry+entry_value+inline_mapping+item+mapping+sequence.Lts-sequence as sequence-lts
 use Rattle.block.proofs.behind_colon.Reads as behind-colon-reads
 use Rattle.block.proofs.block_key.Reads as block-key-reads
-use Rattle.block.proofs.dashed.Reads as dashed-reads
 use Rattle.block.proofs.goes_on.Reads as goes-on-reads
 use Rattle.block.proofs.key_at.Reads as key-at-reads
 use Rattle.block.proofs.line_value.Reads as line-value-reads
-use Rattle.literal.proofs.literal.Reads as literal-reads
 use Rattle.block.proofs.null.Reads as null-reads
-use Rattle.block.proofs.opens.Reads as opens-reads
-use Rattle.block.proofs.trimmed_value.Reads as trimmed-value-reads
+use Rattle.block.proofs.opens_with.Reads as opens-with-reads
 use Rattle.item.proofs.put_header.Reads as put-header-reads
-use Rattle.keys.proofs.has_key.Reads as has-key-reads
+use Rattle.entries.proofs.has_key.Reads as has-key-reads
 use Rattle.lines.proofs.entry_at.Reads as entry-at-reads
+use Rattle.lines.proofs.line_text.Reads as line-text-reads
+use Rattle.literal.proofs.literal.Reads as literal-reads
 use Rattle.scalar.proofs.key_end.Reads as key-end-reads
 use Rattle.utf8.proofs.trim_start.Reads as trim-start-reads
+use Rattle.utf8.proofs.trimmed.Reads as trimmed-reads
 use Rattle.block.proofs.+block+child+entries+entry+entry_value+inline_mapping+item+mapping+sequence.{
   statement,
 }
@@ -75,7 +75,7 @@ abbrev μ-child : Measures 3 child-kinds.ps ℕ
 μ-child κs a = 8 * a .1 .1 .1 .1 .1 .0 + 1
 
 abbrev μ-entries : Measures 3 entries-kinds.ps ℕ
-μ-entries κs a = 8 * a .1 .1 .1 .1 .1 .0 + 4
+μ-entries κs a = 8 * a .1 .1 .1 .1 .1 .1 .0 + 4
 
 abbrev μ-entry : Measures 3 entry-kinds.ps ℕ
 μ-entry κs a = 8 * a .1 .1 .1 .1 .1 .1 .0 + 3
@@ -90,7 +90,7 @@ abbrev μ-item : Measures 3 item-kinds.ps ℕ
 μ-item κs a = 8 * a .1 .1 .1 .1 .0 + 2
 
 abbrev μ-mapping : Measures 3 mapping-kinds.ps ℕ
-μ-mapping κs a = 8 * a .1 .1 .1 .1 .1 .0 + 5
+μ-mapping κs a = 8 * a .1 .1 .1 .1 .1 .1 .0 + 5
 
 abbrev μ-sequence : Measures 3 sequence-kinds.ps ℕ
 μ-sequence κs a = 8 * a .1 .1 .1 .1 .1 .0 + 3
@@ -162,7 +162,7 @@ abbrev sequence-below : ℕ → In 3 sequence-kinds.ps
 sequence-below t =
     and 3 sequence-kinds.ps (falls 3 sequence-kinds.ps _<_ μ-sequence t) sequence.Pre
 
-block-returns : (t : ℕ) → block-lts.Need-returns (null-reads.Asked, null-reads.Learnt, entry-at-reads.Asked, entry-at-reads.Learnt, opens-reads.Asked, opens-reads.Learnt, line-value-reads.Asked, line-value-reads.Learnt, dashed-reads.Asked, dashed-reads.Learnt, sequence-below t, sequence.Post, mapping-below t, mapping.Post) (block-at t) block.Post
+block-returns : (t : ℕ) → block-lts.Need-returns (null-reads.Asked, null-reads.Learnt, entry-at-reads.Asked, entry-at-reads.Learnt, line-text-reads.Asked, line-text-reads.Learnt, opens-with-reads.Asked, opens-with-reads.Learnt, line-value-reads.Asked, line-value-reads.Learnt, sequence-below t, sequence.Post, mapping-below t, mapping.Post) (block-at t) block.Post
 block-returns t c =
     let a = c .before .before .before .before .before .before .before .before .args in
     let text = a .text .now in
@@ -172,76 +172,53 @@ block-returns t c =
     let pre = c .before .before .before .before .before .before .before .before .pre in
     let if1 = c .before .before .before .before .if1 in
     let null′ = c .before .before .null in
-    agrees-block _ _ ls (a .i) (a .i) (a .out .now) _ (a .at) (null′ .result) (block-end cap (a .levels) (a .at) (drop (a .i) ls) (all-read text table (a .count) (a .i) (if1 .taken))) (omega arith) (null′ .ensures ls (in-lines text table (a .count) (a .i) (pre .1 .1)))
+    agrees-block _ _ ls (a .i) (a .i) (a .out .now) _ (a .at) (null′ .result) (block-end cap (a .levels) (a .at) (drop (a .i) ls) (rows-end text table (a .count) (a .i) (if1 .taken))) (omega arith) (null′ .ensures ls (in-lines text table (a .count) (a .i) (pre .1 .1)))
 
-block-sub-opens : (t : ℕ) → block-lts.Need-sub-opens (null-reads.Asked, null-reads.Learnt, entry-at-reads.Asked, entry-at-reads.Learnt, opens-reads.Asked, opens-reads.Learnt, line-value-reads.Asked, line-value-reads.Learnt, dashed-reads.Asked, dashed-reads.Learnt, sequence-below t, sequence.Post, mapping-below t, mapping.Post) (block-at t) block.Post
-block-sub-opens t c =
-    let a = c .before .before .before .before .before .args in
-    let text = a .text .now in
-    let table = a .table .now in
-    let pre = c .before .before .before .before .before .pre in
-    let if1 = c .before .if1 in
-    let x = c .entry-at in
-    let h : a .i < a .count = omega (arith, pre .1 .1, if1 .left) in
-    ordered text table (a .count) (a .i) h (x .result) (x .ensures) (pre .1 .0)
-
-block-part-opens-start : (t : ℕ) → block-lts.Need-part-opens-start (null-reads.Asked, null-reads.Learnt, entry-at-reads.Asked, entry-at-reads.Learnt, opens-reads.Asked, opens-reads.Learnt, line-value-reads.Asked, line-value-reads.Learnt, dashed-reads.Asked, dashed-reads.Learnt, sequence-below t, sequence.Post, mapping-below t, mapping.Post) (block-at t) block.Post
-block-part-opens-start t c =
-    let a = c .before .before .before .before .before .args in
-    let text = a .text .now in
-    let table = a .table .now in
-    let pre = c .before .before .before .before .before .pre in
-    let if1 = c .before .if1 in
-    let x = c .entry-at in
-    let h : a .i < a .count = omega (arith, pre .1 .1, if1 .left) in
-    ordered text table (a .count) (a .i) h (x .result) (x .ensures) (pre .1 .0)
-
-block-part-opens-end : (t : ℕ) → block-lts.Need-part-opens-end (null-reads.Asked, null-reads.Learnt, entry-at-reads.Asked, entry-at-reads.Learnt, opens-reads.Asked, opens-reads.Learnt, line-value-reads.Asked, line-value-reads.Learnt, dashed-reads.Asked, dashed-reads.Learnt, sequence-below t, sequence.Post, mapping-below t, mapping.Post) (block-at t) block.Post
-block-part-opens-end t c =
-    let a = c .before .before .before .before .before .args in
-    let text = a .text .now in
-    let table = a .table .now in
-    let pre = c .before .before .before .before .before .pre in
-    let if1 = c .before .if1 in
-    let x = c .entry-at in
-    let h : a .i < a .count = omega (arith, pre .1 .1, if1 .left) in
-    inside text table (a .count) (a .i) h (x .result) (x .ensures) (pre .1 .0)
-
-block-sub-line-value : (t : ℕ) → block-lts.Need-sub-line-value (null-reads.Asked, null-reads.Learnt, entry-at-reads.Asked, entry-at-reads.Learnt, opens-reads.Asked, opens-reads.Learnt, line-value-reads.Asked, line-value-reads.Learnt, dashed-reads.Asked, dashed-reads.Learnt, sequence-below t, sequence.Post, mapping-below t, mapping.Post) (block-at t) block.Post
-block-sub-line-value t c =
-    let a = c .before .before .before .before .before .before .before .before .args in
-    let text = a .text .now in
-    let table = a .table .now in
-    let pre = c .before .before .before .before .before .before .before .before .pre in
-    let if1 = c .before .before .before .before .if1 in
-    let x = c .before .before .before .entry-at in
-    let h : a .i < a .count = omega (arith, pre .1 .1, if1 .left) in
-    ordered text table (a .count) (a .i) h (x .result) (x .ensures) (pre .1 .0)
-
-block-part-line-value-start : (t : ℕ) → block-lts.Need-part-line-value-start (null-reads.Asked, null-reads.Learnt, entry-at-reads.Asked, entry-at-reads.Learnt, opens-reads.Asked, opens-reads.Learnt, line-value-reads.Asked, line-value-reads.Learnt, dashed-reads.Asked, dashed-reads.Learnt, sequence-below t, sequence.Post, mapping-below t, mapping.Post) (block-at t) block.Post
-block-part-line-value-start t c =
-    let a = c .before .before .before .before .before .before .before .before .args in
-    let text = a .text .now in
-    let table = a .table .now in
-    let pre = c .before .before .before .before .before .before .before .before .pre in
-    let if1 = c .before .before .before .before .if1 in
-    let x = c .before .before .before .entry-at in
-    let h : a .i < a .count = omega (arith, pre .1 .1, if1 .left) in
-    ordered text table (a .count) (a .i) h (x .result) (x .ensures) (pre .1 .0)
-
-block-part-line-value-end : (t : ℕ) → block-lts.Need-part-line-value-end (null-reads.Asked, null-reads.Learnt, entry-at-reads.Asked, entry-at-reads.Learnt, opens-reads.Asked, opens-reads.Learnt, line-value-reads.Asked, line-value-reads.Learnt, dashed-reads.Asked, dashed-reads.Learnt, sequence-below t, sequence.Post, mapping-below t, mapping.Post) (block-at t) block.Post
-block-part-line-value-end t c =
-    let a = c .before .before .before .before .before .before .before .before .args in
-    let text = a .text .now in
-    let table = a .table .now in
-    let pre = c .before .before .before .before .before .before .before .before .pre in
-    let if1 = c .before .before .before .before .if1 in
-    let x = c .before .before .before .entry-at in
-    let h : a .i < a .count = omega (arith, pre .1 .1, if1 .left) in
-    inside text table (a .count) (a .i) h (x .result) (x .ensures) (pre .1 .0)
-
-block-returns-2 : (t : ℕ) → block-lts.Need-returns-2 (null-reads.Asked, null-reads.Learnt, entry-at-reads.Asked, entry-at-reads.Learnt, opens-reads.Asked, opens-reads.Learnt, line-value-reads.Asked, line-value-reads.Learnt, dashed-reads.Asked, dashed-reads.Learnt, sequence-below t, sequence.Post, mapping-below t, mapping.Post) (block-at t) block.Post
+block-returns-2 : (t : ℕ) → block-lts.Need-returns-2 (null-reads.Asked, null-reads.Learnt, entry-at-reads.Asked, entry-at-reads.Learnt, line-text-reads.Asked, line-text-reads.Learnt, opens-with-reads.Asked, opens-with-reads.Learnt, line-value-reads.Asked, line-value-reads.Learnt, sequence-below t, sequence.Post, mapping-below t, mapping.Post) (block-at t) block.Post
 block-returns-2 t c =
+    let a = c .before .before .before .before .before .before .before .before .before .before .args in
+    let text = a .text .now in
+    let table = a .table .now in
+    let cap = length (a .out .now) in
+    let pre = c .before .before .before .before .before .before .before .before .before .before .pre in
+    let if1 = c .before .before .before .before .before .before .if1 in
+    let x = c .before .before .before .before .before .entry-at in
+    let t = c .before .before .before .before .line-text in
+    let o = c .before .before .before .opens-with in
+    let h : a .i < a .count = omega (arith, pre .1 .1, if1 .left) in
+    sequence-deep-at text table (a .count) (a .i) h (x .result) (x .ensures) cap (a .levels) (a .at) (t .result .now) (t .ensures .0) (sym (c .before .enum-told2 .given .1) ∙ o .ensures) (c .if2 .taken)
+
+block-returns-3 : (t : ℕ) → block-lts.Need-returns-3 (null-reads.Asked, null-reads.Learnt, entry-at-reads.Asked, entry-at-reads.Learnt, line-text-reads.Asked, line-text-reads.Learnt, opens-with-reads.Asked, opens-with-reads.Learnt, line-value-reads.Asked, line-value-reads.Learnt, sequence-below t, sequence.Post, mapping-below t, mapping.Post) (block-at t) block.Post
+block-returns-3 t c =
+    let a = c .before .before .before .before .before .before .before .before .before .before .before .args in
+    let text = a .text .now in
+    let table = a .table .now in
+    let cap = length (a .out .now) in
+    let pre = c .before .before .before .before .before .before .before .before .before .before .before .pre in
+    let if1 = c .before .before .before .before .before .before .before .if1 in
+    let x = c .before .before .before .before .before .before .entry-at in
+    let t = c .before .before .before .before .before .line-text in
+    let o = c .before .before .before .before .opens-with in
+    let s = c .before .before .split .given in
+    let h : a .i < a .count = omega (arith, pre .1 .1, if1 .left) in
+    mapping-deep-at text table (a .count) (a .i) h (x .result) (x .ensures) cap (a .levels) (a .at) (t .result .now) (t .ensures .0) (s .0 .0) (sym (s .1) ∙ o .ensures) (c .if3 .taken)
+
+block-mapping-requires : (t : ℕ) → block-lts.Need-mapping-requires (null-reads.Asked, null-reads.Learnt, entry-at-reads.Asked, entry-at-reads.Learnt, line-text-reads.Asked, line-text-reads.Learnt, opens-with-reads.Asked, opens-with-reads.Learnt, line-value-reads.Asked, line-value-reads.Learnt, sequence-below t, sequence.Post, mapping-below t, mapping.Post) (block-at t) block.Post
+block-mapping-requires t c κs =
+    let a = c .before .before .before .before .before .before .before .before .before .before .before .before .args in
+    let text = a .text .now in
+    let table = a .table .now in
+    let pre = c .before .before .before .before .before .before .before .before .before .before .before .before .pre in
+    let if1 = c .before .before .before .before .before .before .before .before .if1 in
+    let x = c .before .before .before .before .before .before .before .entry-at in
+    let t = c .before .before .before .before .before .before .line-text in
+    let o = c .before .before .before .before .before .opens-with in
+    let s = c .before .before .before .split .given in
+    let h : a .i < a .count = omega (arith, pre .1 .1, if1 .left) in
+    (omega (arith, c .before .if3 .left), (pre .1 .0, h, key-first text table (a .count) (a .i) h (x .result) (x .ensures) (t .result .now) (t .ensures .0) (s .0 .0) (sym (s .1) ∙ o .ensures), pre .1 .2, pre .1 .3))
+
+block-returns-4 : (t : ℕ) → block-lts.Need-returns-4 (null-reads.Asked, null-reads.Learnt, entry-at-reads.Asked, entry-at-reads.Learnt, line-text-reads.Asked, line-text-reads.Learnt, opens-with-reads.Asked, opens-with-reads.Learnt, line-value-reads.Asked, line-value-reads.Learnt, sequence-below t, sequence.Post, mapping-below t, mapping.Post) (block-at t) block.Post
+block-returns-4 t c =
     let a = c .before .before .before .before .before .before .before .before .before .before .before .before .before .args in
     let text = a .text .now in
     let table = a .table .now in
@@ -250,95 +227,44 @@ block-returns-2 t c =
     let pre = c .before .before .before .before .before .before .before .before .before .before .before .before .before .pre in
     let if1 = c .before .before .before .before .before .before .before .before .before .if1 in
     let x = c .before .before .before .before .before .before .before .before .entry-at in
-    let opens′ = c .before .before .before .before .before .before .opens in
-    let if2 = c .before .before .before .before .before .if2 in
+    let t = c .before .before .before .before .before .before .before .line-text in
+    let o = c .before .before .before .before .before .before .opens-with in
     let line-value′ = c .before .before .line-value in
     let h : a .i < a .count = omega (arith, pre .1 .1, if1 .left) in
-    agrees-block _ _ ls (a .i) (a .i + 1) (a .out .now) _ (a .at) (line-value′ .result) (block-line-at text table (a .count) (a .i) h (x .result) (x .ensures) cap (a .levels) (a .at) (sym (opens′ .ensures) ∙ not-true (opens′ .result) (if2 .taken))) (omega arith) (line-value′ .ensures ls (in-lines text table (a .count) (a .i + 1) (omega (arith, if1 .left, pre .1 .1))))
+    agrees-block _ _ ls (a .i) (a .i + 1) (a .out .now) _ (a .at) (line-value′ .result) (block-line-at text table (a .count) (a .i) h (x .result) (x .ensures) cap (a .levels) (a .at) (t .result .now) (t .ensures .0) (sym (c .before .before .before .before .enum-told .given .1) ∙ o .ensures)) (omega arith) (line-value′ .ensures ls (in-lines text table (a .count) (a .i + 1) (omega (arith, if1 .left, pre .1 .1))))
 
-block-returns-3 : (t : ℕ) → block-lts.Need-returns-3 (null-reads.Asked, null-reads.Learnt, entry-at-reads.Asked, entry-at-reads.Learnt, opens-reads.Asked, opens-reads.Learnt, line-value-reads.Asked, line-value-reads.Learnt, dashed-reads.Asked, dashed-reads.Learnt, sequence-below t, sequence.Post, mapping-below t, mapping.Post) (block-at t) block.Post
-block-returns-3 t c =
-    let a = c .before .before .before .before .before .before .before .before .before .args in
-    let text = a .text .now in
-    let table = a .table .now in
-    let cap = length (a .out .now) in
-    let pre = c .before .before .before .before .before .before .before .before .before .pre in
-    let if1 = c .before .before .before .before .before .if1 in
-    let x = c .before .before .before .before .entry-at in
-    let opens′ = c .before .before .opens in
-    let if2 = c .before .if2 in
-    let if3 = c .if3 in
-    let h : a .i < a .count = omega (arith, pre .1 .1, if1 .left) in
-    block-deep-at text table (a .count) (a .i) h (x .result) (x .ensures) cap (a .levels) (a .at) (sym (opens′ .ensures) ∙ not-false (opens′ .result) (if2 .left)) (if3 .taken)
-
-block-sub-dashed : (t : ℕ) → block-lts.Need-sub-dashed (null-reads.Asked, null-reads.Learnt, entry-at-reads.Asked, entry-at-reads.Learnt, opens-reads.Asked, opens-reads.Learnt, line-value-reads.Asked, line-value-reads.Learnt, dashed-reads.Asked, dashed-reads.Learnt, sequence-below t, sequence.Post, mapping-below t, mapping.Post) (block-at t) block.Post
-block-sub-dashed t c =
-    let a = c .before .before .before .before .before .before .before .before .before .args in
-    let text = a .text .now in
-    let table = a .table .now in
-    let pre = c .before .before .before .before .before .before .before .before .before .pre in
-    let if1 = c .before .before .before .before .before .if1 in
-    let x = c .before .before .before .before .entry-at in
-    let h : a .i < a .count = omega (arith, pre .1 .1, if1 .left) in
-    ordered text table (a .count) (a .i) h (x .result) (x .ensures) (pre .1 .0)
-
-block-part-dashed-start : (t : ℕ) → block-lts.Need-part-dashed-start (null-reads.Asked, null-reads.Learnt, entry-at-reads.Asked, entry-at-reads.Learnt, opens-reads.Asked, opens-reads.Learnt, line-value-reads.Asked, line-value-reads.Learnt, dashed-reads.Asked, dashed-reads.Learnt, sequence-below t, sequence.Post, mapping-below t, mapping.Post) (block-at t) block.Post
-block-part-dashed-start t c =
-    let a = c .before .before .before .before .before .before .before .before .before .args in
-    let text = a .text .now in
-    let table = a .table .now in
-    let pre = c .before .before .before .before .before .before .before .before .before .pre in
-    let if1 = c .before .before .before .before .before .if1 in
-    let x = c .before .before .before .before .entry-at in
-    let h : a .i < a .count = omega (arith, pre .1 .1, if1 .left) in
-    ordered text table (a .count) (a .i) h (x .result) (x .ensures) (pre .1 .0)
-
-block-part-dashed-end : (t : ℕ) → block-lts.Need-part-dashed-end (null-reads.Asked, null-reads.Learnt, entry-at-reads.Asked, entry-at-reads.Learnt, opens-reads.Asked, opens-reads.Learnt, line-value-reads.Asked, line-value-reads.Learnt, dashed-reads.Asked, dashed-reads.Learnt, sequence-below t, sequence.Post, mapping-below t, mapping.Post) (block-at t) block.Post
-block-part-dashed-end t c =
-    let a = c .before .before .before .before .before .before .before .before .before .args in
-    let text = a .text .now in
-    let table = a .table .now in
-    let pre = c .before .before .before .before .before .before .before .before .before .pre in
-    let if1 = c .before .before .before .before .before .if1 in
-    let x = c .before .before .before .before .entry-at in
-    let h : a .i < a .count = omega (arith, pre .1 .1, if1 .left) in
-    inside text table (a .count) (a .i) h (x .result) (x .ensures) (pre .1 .0)
-
-block-returns-4 : (t : ℕ) → block-lts.Need-returns-4 (null-reads.Asked, null-reads.Learnt, entry-at-reads.Asked, entry-at-reads.Learnt, opens-reads.Asked, opens-reads.Learnt, line-value-reads.Asked, line-value-reads.Learnt, dashed-reads.Asked, dashed-reads.Learnt, sequence-below t, sequence.Post, mapping-below t, mapping.Post) (block-at t) block.Post
-block-returns-4 t c =
-    let a = c .before .before .before .before .before .before .before .before .before .before .before .before .before .before .before .before .args in
+block-returns-5 : (t : ℕ) → block-lts.Need-returns-5 (null-reads.Asked, null-reads.Learnt, entry-at-reads.Asked, entry-at-reads.Learnt, line-text-reads.Asked, line-text-reads.Learnt, opens-with-reads.Asked, opens-with-reads.Learnt, line-value-reads.Asked, line-value-reads.Learnt, sequence-below t, sequence.Post, mapping-below t, mapping.Post) (block-at t) block.Post
+block-returns-5 t c =
+    let a = c .before .before .before .before .before .before .before .before .before .before .before .before .before .before .args in
     let text = a .text .now in
     let table = a .table .now in
     let ls = tableLines text table (a .count) in
     let cap = length (a .out .now) in
-    let pre = c .before .before .before .before .before .before .before .before .before .before .before .before .before .before .before .before .pre in
-    let if1 = c .before .before .before .before .before .before .before .before .before .before .before .before .if1 in
-    let x = c .before .before .before .before .before .before .before .before .before .before .before .entry-at in
-    let if3 = c .before .before .before .before .before .before .before .if3 in
-    let dashed′ = c .before .before .before .before .before .dashed in
-    let if4 = c .before .before .before .before .if4 in
+    let pre = c .before .before .before .before .before .before .before .before .before .before .before .before .before .before .pre in
+    let if1 = c .before .before .before .before .before .before .before .before .before .before .if1 in
+    let x = c .before .before .before .before .before .before .before .before .before .entry-at in
+    let t = c .before .before .before .before .before .before .before .before .line-text in
+    let o = c .before .before .before .before .before .before .before .opens-with in
     let sequence′ = c .before .before .sequence in
     let h : a .i < a .count = omega (arith, pre .1 .1, if1 .left) in
-    agrees-block _ _ ls (a .i) (a .i) (a .out .now) _ (a .at) (sequence′ .result) (block-sequence-at text table (a .count) (a .i) h (x .result) (x .ensures) cap (a .levels) (a .at) (sym (dashed′ .ensures) ∙ if4 .taken) (if3 .left)) (omega arith) (sequence′ .ensures)
+    agrees-block _ _ ls (a .i) (a .i) (a .out .now) _ (a .at) (sequence′ .result) (block-sequence-at text table (a .count) (a .i) h (x .result) (x .ensures) cap (a .levels) (a .at) (t .result .now) (t .ensures .0) (sym (c .before .before .before .before .before .enum-told2 .given .1) ∙ o .ensures) (c .before .before .before .before .if2 .left)) (omega arith) (sequence′ .ensures)
 
-block-returns-5 : (t : ℕ) → block-lts.Need-returns-5 (null-reads.Asked, null-reads.Learnt, entry-at-reads.Asked, entry-at-reads.Learnt, opens-reads.Asked, opens-reads.Learnt, line-value-reads.Asked, line-value-reads.Learnt, dashed-reads.Asked, dashed-reads.Learnt, sequence-below t, sequence.Post, mapping-below t, mapping.Post) (block-at t) block.Post
-block-returns-5 t c =
-    let a = c .before .before .before .before .before .before .before .before .before .before .before .before .before .before .before .before .args in
+block-returns-6 : (t : ℕ) → block-lts.Need-returns-6 (null-reads.Asked, null-reads.Learnt, entry-at-reads.Asked, entry-at-reads.Learnt, line-text-reads.Asked, line-text-reads.Learnt, opens-with-reads.Asked, opens-with-reads.Learnt, line-value-reads.Asked, line-value-reads.Learnt, sequence-below t, sequence.Post, mapping-below t, mapping.Post) (block-at t) block.Post
+block-returns-6 t c =
+    let a = c .before .before .before .before .before .before .before .before .before .before .before .before .before .before .before .args in
     let text = a .text .now in
     let table = a .table .now in
     let ls = tableLines text table (a .count) in
     let cap = length (a .out .now) in
-    let pre = c .before .before .before .before .before .before .before .before .before .before .before .before .before .before .before .before .pre in
-    let if1 = c .before .before .before .before .before .before .before .before .before .before .before .before .if1 in
-    let x = c .before .before .before .before .before .before .before .before .before .before .before .entry-at in
-    let opens′ = c .before .before .before .before .before .before .before .before .before .opens in
-    let if2 = c .before .before .before .before .before .before .before .before .if2 in
-    let if3 = c .before .before .before .before .before .before .before .if3 in
-    let dashed′ = c .before .before .before .before .before .dashed in
-    let if4 = c .before .before .before .before .if4 in
+    let pre = c .before .before .before .before .before .before .before .before .before .before .before .before .before .before .before .pre in
+    let if1 = c .before .before .before .before .before .before .before .before .before .before .before .if1 in
+    let x = c .before .before .before .before .before .before .before .before .before .before .entry-at in
+    let t = c .before .before .before .before .before .before .before .before .before .line-text in
+    let o = c .before .before .before .before .before .before .before .before .opens-with in
+    let s = c .before .before .before .before .before .before .split .given in
     let mapping′ = c .before .before .mapping in
     let h : a .i < a .count = omega (arith, pre .1 .1, if1 .left) in
-    agrees-block _ _ ls (a .i) (a .i) (a .out .now) _ (a .at) (mapping′ .result) (block-mapping-at text table (a .count) (a .i) h (x .result) (x .ensures) cap (a .levels) (a .at) (sym (opens′ .ensures) ∙ not-false (opens′ .result) (if2 .left)) (sym (dashed′ .ensures) ∙ if4 .left) (if3 .left)) (omega arith) (mapping′ .ensures)
+    agrees-block _ _ ls (a .i) (a .i) (a .out .now) _ (a .at) (mapping′ .result) (block-mapping-at text table (a .count) (a .i) h (x .result) (x .ensures) cap (a .levels) (a .at) (t .result .now) (t .ensures .0) (s .0 .0) (sym (s .1) ∙ o .ensures) (c .before .before .before .before .if3 .left)) (omega arith) (mapping′ .ensures)
 
 child-returns : (t : ℕ) → child-lts.Need-returns (null-reads.Asked, null-reads.Learnt, entry-at-reads.Asked, entry-at-reads.Learnt, block-below t, block.Post) (child-at t) child.Post
 child-returns t c =
@@ -350,7 +276,7 @@ child-returns t c =
     let pre = c .before .before .before .before .before .before .before .before .pre in
     let if1 = c .before .before .before .before .if1 in
     let null′ = c .before .before .null in
-    agrees-block _ _ ls (a .i) (a .i) (a .out .now) _ (a .at) (null′ .result) (child-end cap (a .levels) (a .indent) (a .at) (drop (a .i) ls) (all-read text table (a .count) (a .i) (if1 .taken))) (omega arith) (null′ .ensures ls (in-lines text table (a .count) (a .i) (pre .1 .1)))
+    agrees-block _ _ ls (a .i) (a .i) (a .out .now) _ (a .at) (null′ .result) (child-end cap (a .levels) (a .indent) (a .at) (drop (a .i) ls) (rows-end text table (a .count) (a .i) (if1 .taken))) (omega arith) (null′ .ensures ls (in-lines text table (a .count) (a .i) (pre .1 .1)))
 
 child-returns-2 : (t : ℕ) → child-lts.Need-returns-2 (null-reads.Asked, null-reads.Learnt, entry-at-reads.Asked, entry-at-reads.Learnt, block-below t, block.Post) (child-at t) child.Post
 child-returns-2 t c =
@@ -383,115 +309,119 @@ child-returns-3 t c =
     agrees-block _ _ ls (a .i) (a .i) (a .out .now) _ (a .at) (null2′ .result) (child-none-at text table (a .count) (a .i) h (x .result) (x .ensures) cap (a .levels) (a .at) (a .indent) (omega (arith, if2 .left))) (omega arith) (null2′ .ensures ls (in-lines text table (a .count) (a .i) (pre .1 .1)))
 
 abbrev entries-Inv-loop : entries-lts.InvT-loop
-entries-Inv-loop text table count first indent levels out₀ at i₀ p₀ out i p = Mapped (tableLines text table count) first indent levels out₀ at out i p
+entries-Inv-loop text table count first indent levels out₀ at i₀ key₀ p₀ out i key p = Mapped (tableLines text table count) first indent levels out₀ at out i p × (key ≡ foundOf (keyHere indent (drop i (tableLines text table count))))
 
 abbrev entries-μ-loop : entries-lts.MeasureT-loop
-entries-μ-loop text table count first indent levels out₀ at i₀ p₀ out i p = count - i
+entries-μ-loop text table count first indent levels out₀ at i₀ key₀ p₀ out i key p = count - i
 
-entries-loop-holds : (t : ℕ) → entries-lts.Need-loop-holds (key-at-reads.Asked, key-at-reads.Learnt, entry-at-reads.Asked, entry-at-reads.Learnt, entry-below t, entry.Post, has-key-reads.Asked, has-key-reads.Learnt) (entries-at t) entries.Post entries-Inv-loop entries-μ-loop
+entries-loop-holds : (t : ℕ) → entries-lts.Need-loop-holds (entry-at-reads.Asked, entry-at-reads.Learnt, entry-below t, entry.Post, has-key-reads.Asked, has-key-reads.Learnt, key-at-reads.Asked, key-at-reads.Learnt) (entries-at t) entries.Post entries-Inv-loop entries-μ-loop
 entries-loop-holds t c =
     let a = c .before .before .before .args in
     let text = a .text .now in
     let table = a .table .now in
     let ls = tableLines text table (a .count) in
     let pre = c .before .before .before .pre in
-    mapped-start ls (a .first) (a .indent) (a .levels) (a .out .now) (a .at) (pre .1 .2) (in-lines text table (a .count) (a .first) (pre .1 .1))
+    (mapped-start ls (a .first) (a .indent) (a .levels) (a .out .now) (a .at) (pre .1 .3) (in-lines text table (a .count) (a .first) (pre .1 .1)), pre .1 .2)
 
-entries-key-at-requires : (t : ℕ) → entries-lts.Need-key-at-requires (key-at-reads.Asked, key-at-reads.Learnt, entry-at-reads.Asked, entry-at-reads.Learnt, entry-below t, entry.Post, has-key-reads.Asked, has-key-reads.Learnt) (entries-at t) entries.Post entries-Inv-loop entries-μ-loop
-entries-key-at-requires t c κs =
-    let a = c .before .before .before .before .args in
-    let text = a .text .now in
-    let table = a .table .now in
-    let pre = c .before .before .before .before .pre in
-    let l = c .loop in
-    (pre .1 .0, in-table text table (a .count) (l .i) (l .inv .within′))
-
-entries-entry-at-requires : (t : ℕ) → entries-lts.Need-entry-at-requires (key-at-reads.Asked, key-at-reads.Learnt, entry-at-reads.Asked, entry-at-reads.Learnt, entry-below t, entry.Post, has-key-reads.Asked, has-key-reads.Learnt) (entries-at t) entries.Post entries-Inv-loop entries-μ-loop
+entries-entry-at-requires : (t : ℕ) → entries-lts.Need-entry-at-requires (entry-at-reads.Asked, entry-at-reads.Learnt, entry-below t, entry.Post, has-key-reads.Asked, has-key-reads.Learnt, key-at-reads.Asked, key-at-reads.Learnt) (entries-at t) entries.Post entries-Inv-loop entries-μ-loop
 entries-entry-at-requires t c κs =
-    let a = c .before .before .before .before .before .before .before .before .args in
+    let a = c .before .before .before .before .before .before .before .args in
     let text = a .text .now in
     let table = a .table .now in
     let ls = tableLines text table (a .count) in
-    let pre = c .before .before .before .before .before .before .before .before .pre in
-    let l = c .before .before .before .before .loop in
-    let key-at′ = c .before .before .before .key-at in
-    let split = c .before .split in
-    let k = found-at (keyHere (a .indent) (drop (l .i) ls)) (split .given .0 .0) (sym (split .given .1) ∙ key-at′ .ensures) in
-    let h = key-there text table (a .count) (l .i) (a .indent) (split .given .0 .0) (l .inv .within′) k in
+    let pre = c .before .before .before .before .before .before .before .pre in
+    let l = c .before .before .before .loop in
+    let split = c .before .key in
+    let k = found-at (keyHere (a .indent) (drop (l .i) ls)) (split .given .0 .0) (sym (split .given .1) ∙ l .inv .1) in
+    let h = key-there text table (a .count) (l .i) (a .indent) (split .given .0 .0) (l .inv .0 .within′) k in
     omega (arith, h, pre .1 .0 .few, pre .1 .0 .whole)
 
-entries-entry-requires : (t : ℕ) → entries-lts.Need-entry-requires (key-at-reads.Asked, key-at-reads.Learnt, entry-at-reads.Asked, entry-at-reads.Learnt, entry-below t, entry.Post, has-key-reads.Asked, has-key-reads.Learnt) (entries-at t) entries.Post entries-Inv-loop entries-μ-loop
+entries-entry-requires : (t : ℕ) → entries-lts.Need-entry-requires (entry-at-reads.Asked, entry-at-reads.Learnt, entry-below t, entry.Post, has-key-reads.Asked, has-key-reads.Learnt, key-at-reads.Asked, key-at-reads.Learnt) (entries-at t) entries.Post entries-Inv-loop entries-μ-loop
 entries-entry-requires t c κs =
-    let a = c .before .before .before .before .before .before .before .before .before .before .args in
+    let a = c .before .before .before .before .before .before .before .before .before .args in
     let text = a .text .now in
     let table = a .table .now in
     let ls = tableLines text table (a .count) in
-    let pre = c .before .before .before .before .before .before .before .before .before .before .pre in
-    let l = c .before .before .before .before .before .before .loop in
-    let key-at′ = c .before .before .before .before .before .key-at in
-    let split = c .before .before .before .split in
+    let pre = c .before .before .before .before .before .before .before .before .before .pre in
+    let l = c .before .before .before .before .before .loop in
+    let split = c .before .before .before .key in
     let x = c .before .entry-at in
-    let k = found-at (keyHere (a .indent) (drop (l .i) ls)) (split .given .0 .0) (sym (split .given .1) ∙ key-at′ .ensures) in
-    let h = key-there text table (a .count) (l .i) (a .indent) (split .given .0 .0) (l .inv .within′) k in
-    (omega arith, (pre .1 .0, h, key-splits text table (a .count) (l .i) h (x .result) (x .ensures) (a .indent) (split .given .0 .0) k (pre .1 .0), omega (arith, l .inv .room, l .inv .kept), omega (arith, l .inv .kept, pre .1 .3)))
+    let k = found-at (keyHere (a .indent) (drop (l .i) ls)) (split .given .0 .0) (sym (split .given .1) ∙ l .inv .1) in
+    let h = key-there text table (a .count) (l .i) (a .indent) (split .given .0 .0) (l .inv .0 .within′) k in
+    (omega arith, (pre .1 .0, h, key-splits text table (a .count) (l .i) h (x .result) (x .ensures) (a .indent) (split .given .0 .0) k (pre .1 .0), omega (arith, l .inv .0 .room, l .inv .0 .kept), omega (arith, l .inv .0 .kept, pre .1 .4)))
 
-entries-returns : (t : ℕ) → entries-lts.Need-returns (key-at-reads.Asked, key-at-reads.Learnt, entry-at-reads.Asked, entry-at-reads.Learnt, entry-below t, entry.Post, has-key-reads.Asked, has-key-reads.Learnt) (entries-at t) entries.Post entries-Inv-loop entries-μ-loop
+entries-returns : (t : ℕ) → entries-lts.Need-returns (entry-at-reads.Asked, entry-at-reads.Learnt, entry-below t, entry.Post, has-key-reads.Asked, has-key-reads.Learnt, key-at-reads.Asked, key-at-reads.Learnt) (entries-at t) entries.Post entries-Inv-loop entries-μ-loop
 entries-returns t c =
+    let a = c .before .before .before .before .before .before .before .before .before .before .before .before .before .before .before .args in
+    let text = a .text .now in
+    let table = a .table .now in
+    let ls = tableLines text table (a .count) in
+    let cap = length (a .out .now) in
+    let l = c .before .before .before .before .before .before .before .before .before .before .before .loop in
+    let split = c .before .before .before .before .before .before .before .before .before .key in
+    let x = c .before .before .before .before .before .before .before .entry-at in
+    let entry′ = c .before .before .before .before .before .entry in
+    let e = c .before .e in
+    let k = found-at (keyHere (a .indent) (drop (l .i) ls)) (split .given .0 .0) (sym (split .given .1) ∙ l .inv .1) in
+    let h = key-there text table (a .count) (l .i) (a .indent) (split .given .0 .0) (l .inv .0 .within′) k in
+    map-stops ls (a .first) (a .indent) (a .levels) (a .out .now) (a .at) (l .out) (l .i) (l .p) (l .inv .0) (lineAt text table (l .i)) (drop (l .i + 1) ls) (rows-next text table (a .count) (l .i) h) (split .given .0 .0) k (e .given .0 .0) (entry-stopped _ _ ls (l .i + 1) (l .out) _ (l .p) (entry-as text table (a .count) (l .i) h (x .result) (x .ensures) (a .indent) (split .given .0 .0) k (length (l .out)) cap (a .levels) (l .p) (l .inv .0 .kept)) (entry′ .result) (entry′ .ensures) (e .given .0 .0) (e .given .1))
+
+entries-has-key-requires : (t : ℕ) → entries-lts.Need-has-key-requires (entry-at-reads.Asked, entry-at-reads.Learnt, entry-below t, entry.Post, has-key-reads.Asked, has-key-reads.Learnt, key-at-reads.Asked, key-at-reads.Learnt) (entries-at t) entries.Post entries-Inv-loop entries-μ-loop
+entries-has-key-requires t c κs =
     let a = c .before .before .before .before .before .before .before .before .before .before .before .before .before .before .before .before .args in
     let text = a .text .now in
     let table = a .table .now in
     let ls = tableLines text table (a .count) in
     let cap = length (a .out .now) in
+    let pre = c .before .before .before .before .before .before .before .before .before .before .before .before .before .before .before .before .pre in
     let l = c .before .before .before .before .before .before .before .before .before .before .before .before .loop in
-    let key-at′ = c .before .before .before .before .before .before .before .before .before .before .before .key-at in
-    let split = c .before .before .before .before .before .before .before .before .before .split in
-    let x = c .before .before .before .before .before .before .before .entry-at in
-    let entry′ = c .before .before .before .before .before .entry in
-    let e = c .before .e in
-    let k = found-at (keyHere (a .indent) (drop (l .i) ls)) (split .given .0 .0) (sym (split .given .1) ∙ key-at′ .ensures) in
-    let h = key-there text table (a .count) (l .i) (a .indent) (split .given .0 .0) (l .inv .within′) k in
-    map-stops ls (a .first) (a .indent) (a .levels) (a .out .now) (a .at) (l .out) (l .i) (l .p) (l .inv) (lineAt text table (l .i)) (drop (l .i + 1) ls) (here text table (a .count) (l .i) h (x .result) (x .ensures)) (split .given .0 .0) k (e .given .0 .0) (entry-stopped _ _ ls (l .i + 1) (l .out) _ (l .p) (entry-as text table (a .count) (l .i) h (x .result) (x .ensures) (a .indent) (split .given .0 .0) k (length (l .out)) cap (a .levels) (l .p) (l .inv .kept)) (entry′ .result) (entry′ .ensures) (e .given .0 .0) (e .given .1))
-
-entries-has-key-requires : (t : ℕ) → entries-lts.Need-has-key-requires (key-at-reads.Asked, key-at-reads.Learnt, entry-at-reads.Asked, entry-at-reads.Learnt, entry-below t, entry.Post, has-key-reads.Asked, has-key-reads.Learnt) (entries-at t) entries.Post entries-Inv-loop entries-μ-loop
-entries-has-key-requires t c κs =
-    let a = c .before .before .before .before .before .before .before .before .before .before .before .before .before .before .before .before .before .args in
-    let text = a .text .now in
-    let table = a .table .now in
-    let ls = tableLines text table (a .count) in
-    let cap = length (a .out .now) in
-    let pre = c .before .before .before .before .before .before .before .before .before .before .before .before .before .before .before .before .before .pre in
-    let l = c .before .before .before .before .before .before .before .before .before .before .before .before .before .loop in
-    let key-at′ = c .before .before .before .before .before .before .before .before .before .before .before .before .key-at in
-    let split = c .before .before .before .before .before .before .before .before .before .before .split in
+    let split = c .before .before .before .before .before .before .before .before .before .before .key in
     let x = c .before .before .before .before .before .before .before .before .entry-at in
     let entry′ = c .before .before .before .before .before .before .entry in
     let next = c .before .before .next in
-    let k = found-at (keyHere (a .indent) (drop (l .i) ls)) (split .given .0 .0) (sym (split .given .1) ∙ key-at′ .ensures) in
-    let h = key-there text table (a .count) (l .i) (a .indent) (split .given .0 .0) (l .inv .within′) k in
-    let w = entry-done _ _ ls (l .i + 1) (l .out) _ (l .p) (entry-as text table (a .count) (l .i) h (x .result) (x .ensures) (a .indent) (split .given .0 .0) k (length (l .out)) cap (a .levels) (l .p) (l .inv .kept)) (entry′ .result) (entry′ .ensures) (next .given .0 .0) (next .given .0 .1 .0) (next .given .0 .1 .1 .0) (next .given .1) in
-    let n = (entry′ .kept .1 .1 .1 .1 .1 .1 .1 .0) in (omega (arith, l .inv .used), omega (arith, w .ends, w .grows, w .fits, n), omega (arith, w .ends), omega (arith, w .grows, w .fits, n), omega (arith, l .inv .kept, n, pre .1 .3))
+    let k = found-at (keyHere (a .indent) (drop (l .i) ls)) (split .given .0 .0) (sym (split .given .1) ∙ l .inv .1) in
+    let h = key-there text table (a .count) (l .i) (a .indent) (split .given .0 .0) (l .inv .0 .within′) k in
+    let w = entry-done _ _ ls (l .i + 1) (l .out) _ (l .p) (entry-as text table (a .count) (l .i) h (x .result) (x .ensures) (a .indent) (split .given .0 .0) k (length (l .out)) cap (a .levels) (l .p) (l .inv .0 .kept)) (entry′ .result) (entry′ .ensures) (next .given .0 .0) (next .given .0 .1 .0) (next .given .0 .1 .1 .0) (next .given .1) in
+    let n = (entry′ .kept .1 .1 .1 .1 .1 .1 .1 .0) in (omega (arith, l .inv .0 .used), omega (arith, w .ends, w .grows, w .fits, n), omega (arith, w .ends), omega (arith, w .grows, w .fits, n), omega (arith, l .inv .0 .kept, n, pre .1 .4))
 
-entries-returns-2 : (t : ℕ) → entries-lts.Need-returns-2 (key-at-reads.Asked, key-at-reads.Learnt, entry-at-reads.Asked, entry-at-reads.Learnt, entry-below t, entry.Post, has-key-reads.Asked, has-key-reads.Learnt) (entries-at t) entries.Post entries-Inv-loop entries-μ-loop
+entries-returns-2 : (t : ℕ) → entries-lts.Need-returns-2 (entry-at-reads.Asked, entry-at-reads.Learnt, entry-below t, entry.Post, has-key-reads.Asked, has-key-reads.Learnt, key-at-reads.Asked, key-at-reads.Learnt) (entries-at t) entries.Post entries-Inv-loop entries-μ-loop
 entries-returns-2 t c =
-    let a = c .before .before .before .before .before .before .before .before .before .before .before .before .before .before .before .before .before .before .before .args in
+    let a = c .before .before .before .before .before .before .before .before .before .before .before .before .before .before .before .before .before .before .args in
     let text = a .text .now in
     let table = a .table .now in
     let ls = tableLines text table (a .count) in
     let cap = length (a .out .now) in
-    let l = c .before .before .before .before .before .before .before .before .before .before .before .before .before .before .before .loop in
-    let key-at′ = c .before .before .before .before .before .before .before .before .before .before .before .before .before .before .key-at in
-    let split = c .before .before .before .before .before .before .before .before .before .before .before .before .split in
+    let l = c .before .before .before .before .before .before .before .before .before .before .before .before .before .before .loop in
+    let split = c .before .before .before .before .before .before .before .before .before .before .before .before .key in
     let x = c .before .before .before .before .before .before .before .before .before .before .entry-at in
     let entry′ = c .before .before .before .before .before .before .before .before .entry in
     let next = c .before .before .before .before .next in
     let has-key′ = c .before .has-key in
     let if1 = c .if1 in
-    let k = found-at (keyHere (a .indent) (drop (l .i) ls)) (split .given .0 .0) (sym (split .given .1) ∙ key-at′ .ensures) in
-    let h = key-there text table (a .count) (l .i) (a .indent) (split .given .0 .0) (l .inv .within′) k in
-    let w = entry-done _ _ ls (l .i + 1) (l .out) _ (l .p) (entry-as text table (a .count) (l .i) h (x .result) (x .ensures) (a .indent) (split .given .0 .0) k (length (l .out)) cap (a .levels) (l .p) (l .inv .kept)) (entry′ .result) (entry′ .ensures) (next .given .0 .0) (next .given .0 .1 .0) (next .given .0 .1 .1 .0) (next .given .1) in
-    map-twice ls (a .first) (a .indent) (a .levels) (a .out .now) (a .at) (l .out) (l .i) (l .p) (l .inv) (lineAt text table (l .i)) (drop (l .i + 1) ls) (here text table (a .count) (l .i) h (x .result) (x .ensures)) (split .given .0 .0) k _ (next .given .0 .0) (next .given .0 .1 .0) (next .given .0 .1 .1 .0) w (has-key′ .result) (has-key′ .ensures) (if1 .taken) ∙ ap (λ (n : ℕ). refused 18 n 0) (sym (x .ensures .number′))
+    let k = found-at (keyHere (a .indent) (drop (l .i) ls)) (split .given .0 .0) (sym (split .given .1) ∙ l .inv .1) in
+    let h = key-there text table (a .count) (l .i) (a .indent) (split .given .0 .0) (l .inv .0 .within′) k in
+    let w = entry-done _ _ ls (l .i + 1) (l .out) _ (l .p) (entry-as text table (a .count) (l .i) h (x .result) (x .ensures) (a .indent) (split .given .0 .0) k (length (l .out)) cap (a .levels) (l .p) (l .inv .0 .kept)) (entry′ .result) (entry′ .ensures) (next .given .0 .0) (next .given .0 .1 .0) (next .given .0 .1 .1 .0) (next .given .1) in
+    map-twice ls (a .first) (a .indent) (a .levels) (a .out .now) (a .at) (l .out) (l .i) (l .p) (l .inv .0) (lineAt text table (l .i)) (drop (l .i + 1) ls) (rows-next text table (a .count) (l .i) h) (split .given .0 .0) k _ (next .given .0 .0) (next .given .0 .1 .0) (next .given .0 .1 .1 .0) w (has-key′ .result) (has-key′ .ensures) (if1 .taken) ∙ ap (λ (n : ℕ). refused 18 n 0) (sym (x .ensures .number′))
 
-entries-loop-less : (t : ℕ) → entries-lts.Need-loop-less (key-at-reads.Asked, key-at-reads.Learnt, entry-at-reads.Asked, entry-at-reads.Learnt, entry-below t, entry.Post, has-key-reads.Asked, has-key-reads.Learnt) (entries-at t) entries.Post entries-Inv-loop entries-μ-loop
+entries-key-at-requires : (t : ℕ) → entries-lts.Need-key-at-requires (entry-at-reads.Asked, entry-at-reads.Learnt, entry-below t, entry.Post, has-key-reads.Asked, has-key-reads.Learnt, key-at-reads.Asked, key-at-reads.Learnt) (entries-at t) entries.Post entries-Inv-loop entries-μ-loop
+entries-key-at-requires t c κs =
+    let a = c .before .before .before .before .before .before .before .before .before .before .before .before .before .before .before .before .before .before .args in
+    let text = a .text .now in
+    let table = a .table .now in
+    let ls = tableLines text table (a .count) in
+    let cap = length (a .out .now) in
+    let pre = c .before .before .before .before .before .before .before .before .before .before .before .before .before .before .before .before .before .before .pre in
+    let l = c .before .before .before .before .before .before .before .before .before .before .before .before .before .before .loop in
+    let split = c .before .before .before .before .before .before .before .before .before .before .before .before .key in
+    let x = c .before .before .before .before .before .before .before .before .before .before .entry-at in
+    let entry′ = c .before .before .before .before .before .before .before .before .entry in
+    let next = c .before .before .before .before .next in
+    let k = found-at (keyHere (a .indent) (drop (l .i) ls)) (split .given .0 .0) (sym (split .given .1) ∙ l .inv .1) in
+    let h = key-there text table (a .count) (l .i) (a .indent) (split .given .0 .0) (l .inv .0 .within′) k in
+    let w = entry-done _ _ ls (l .i + 1) (l .out) _ (l .p) (entry-as text table (a .count) (l .i) h (x .result) (x .ensures) (a .indent) (split .given .0 .0) k (length (l .out)) cap (a .levels) (l .p) (l .inv .0 .kept)) (entry′ .result) (entry′ .ensures) (next .given .0 .0) (next .given .0 .1 .0) (next .given .0 .1 .1 .0) (next .given .1) in
+    (pre .1 .0, in-table text table (a .count) (next .given .0 .0) (w .within))
+
+entries-loop-less : (t : ℕ) → entries-lts.Need-loop-less (entry-at-reads.Asked, entry-at-reads.Learnt, entry-below t, entry.Post, has-key-reads.Asked, has-key-reads.Learnt, key-at-reads.Asked, key-at-reads.Learnt) (entries-at t) entries.Post entries-Inv-loop entries-μ-loop
 entries-loop-less t c =
     let a = c .before .before .before .before .before .before .before .before .before .before .before .before .before .before .before .before .before .before .before .args in
     let text = a .text .now in
@@ -499,17 +429,16 @@ entries-loop-less t c =
     let ls = tableLines text table (a .count) in
     let cap = length (a .out .now) in
     let l = c .before .before .before .before .before .before .before .before .before .before .before .before .before .before .before .loop in
-    let key-at′ = c .before .before .before .before .before .before .before .before .before .before .before .before .before .before .key-at in
-    let split = c .before .before .before .before .before .before .before .before .before .before .before .before .split in
-    let x = c .before .before .before .before .before .before .before .before .before .before .entry-at in
-    let entry′ = c .before .before .before .before .before .before .before .before .entry in
-    let next = c .before .before .before .before .next in
-    let k = found-at (keyHere (a .indent) (drop (l .i) ls)) (split .given .0 .0) (sym (split .given .1) ∙ key-at′ .ensures) in
-    let h = key-there text table (a .count) (l .i) (a .indent) (split .given .0 .0) (l .inv .within′) k in
-    let w = entry-done _ _ ls (l .i + 1) (l .out) _ (l .p) (entry-as text table (a .count) (l .i) h (x .result) (x .ensures) (a .indent) (split .given .0 .0) k (length (l .out)) cap (a .levels) (l .p) (l .inv .kept)) (entry′ .result) (entry′ .ensures) (next .given .0 .0) (next .given .0 .1 .0) (next .given .0 .1 .1 .0) (next .given .1) in
+    let split = c .before .before .before .before .before .before .before .before .before .before .before .before .before .key in
+    let x = c .before .before .before .before .before .before .before .before .before .before .before .entry-at in
+    let entry′ = c .before .before .before .before .before .before .before .before .before .entry in
+    let next = c .before .before .before .before .before .next in
+    let k = found-at (keyHere (a .indent) (drop (l .i) ls)) (split .given .0 .0) (sym (split .given .1) ∙ l .inv .1) in
+    let h = key-there text table (a .count) (l .i) (a .indent) (split .given .0 .0) (l .inv .0 .within′) k in
+    let w = entry-done _ _ ls (l .i + 1) (l .out) _ (l .p) (entry-as text table (a .count) (l .i) h (x .result) (x .ensures) (a .indent) (split .given .0 .0) k (length (l .out)) cap (a .levels) (l .p) (l .inv .0 .kept)) (entry′ .result) (entry′ .ensures) (next .given .0 .0) (next .given .0 .1 .0) (next .given .0 .1 .1 .0) (next .given .1) in
     omega (arith, w .on, in-table text table (a .count) (next .given .0 .0) (w .within))
 
-entries-loop-again : (t : ℕ) → entries-lts.Need-loop-again (key-at-reads.Asked, key-at-reads.Learnt, entry-at-reads.Asked, entry-at-reads.Learnt, entry-below t, entry.Post, has-key-reads.Asked, has-key-reads.Learnt) (entries-at t) entries.Post entries-Inv-loop entries-μ-loop
+entries-loop-again : (t : ℕ) → entries-lts.Need-loop-again (entry-at-reads.Asked, entry-at-reads.Learnt, entry-below t, entry.Post, has-key-reads.Asked, has-key-reads.Learnt, key-at-reads.Asked, key-at-reads.Learnt) (entries-at t) entries.Post entries-Inv-loop entries-μ-loop
 entries-loop-again t c =
     let a = c .before .before .before .before .before .before .before .before .before .before .before .before .before .before .before .before .before .before .before .args in
     let text = a .text .now in
@@ -517,28 +446,26 @@ entries-loop-again t c =
     let ls = tableLines text table (a .count) in
     let cap = length (a .out .now) in
     let l = c .before .before .before .before .before .before .before .before .before .before .before .before .before .before .before .loop in
-    let key-at′ = c .before .before .before .before .before .before .before .before .before .before .before .before .before .before .key-at in
-    let split = c .before .before .before .before .before .before .before .before .before .before .before .before .split in
-    let x = c .before .before .before .before .before .before .before .before .before .before .entry-at in
-    let entry′ = c .before .before .before .before .before .before .before .before .entry in
-    let next = c .before .before .before .before .next in
-    let has-key′ = c .before .has-key in
-    let if1 = c .if1 in
-    let k = found-at (keyHere (a .indent) (drop (l .i) ls)) (split .given .0 .0) (sym (split .given .1) ∙ key-at′ .ensures) in
-    let h = key-there text table (a .count) (l .i) (a .indent) (split .given .0 .0) (l .inv .within′) k in
-    let w = entry-done _ _ ls (l .i + 1) (l .out) _ (l .p) (entry-as text table (a .count) (l .i) h (x .result) (x .ensures) (a .indent) (split .given .0 .0) k (length (l .out)) cap (a .levels) (l .p) (l .inv .kept)) (entry′ .result) (entry′ .ensures) (next .given .0 .0) (next .given .0 .1 .0) (next .given .0 .1 .1 .0) (next .given .1) in
-    map-on ls (a .first) (a .indent) (a .levels) (a .out .now) (a .at) (l .out) (l .i) (l .p) (l .inv) (lineAt text table (l .i)) (drop (l .i + 1) ls) (here text table (a .count) (l .i) h (x .result) (x .ensures)) (split .given .0 .0) k _ (next .given .0 .0) (next .given .0 .1 .0) (next .given .0 .1 .1 .0) w (has-key′ .result) (has-key′ .ensures) (if1 .left)
+    let split = c .before .before .before .before .before .before .before .before .before .before .before .before .before .key in
+    let x = c .before .before .before .before .before .before .before .before .before .before .before .entry-at in
+    let entry′ = c .before .before .before .before .before .before .before .before .before .entry in
+    let next = c .before .before .before .before .before .next in
+    let has-key′ = c .before .before .has-key in
+    let if1 = c .before .if1 in
+    let k = found-at (keyHere (a .indent) (drop (l .i) ls)) (split .given .0 .0) (sym (split .given .1) ∙ l .inv .1) in
+    let h = key-there text table (a .count) (l .i) (a .indent) (split .given .0 .0) (l .inv .0 .within′) k in
+    let w = entry-done _ _ ls (l .i + 1) (l .out) _ (l .p) (entry-as text table (a .count) (l .i) h (x .result) (x .ensures) (a .indent) (split .given .0 .0) k (length (l .out)) cap (a .levels) (l .p) (l .inv .0 .kept)) (entry′ .result) (entry′ .ensures) (next .given .0 .0) (next .given .0 .1 .0) (next .given .0 .1 .1 .0) (next .given .1) in
+    (map-on ls (a .first) (a .indent) (a .levels) (a .out .now) (a .at) (l .out) (l .i) (l .p) (l .inv .0) (lineAt text table (l .i)) (drop (l .i + 1) ls) (rows-next text table (a .count) (l .i) h) (split .given .0 .0) k _ (next .given .0 .0) (next .given .0 .1 .0) (next .given .0 .1 .1 .0) w (has-key′ .result) (has-key′ .ensures) (if1 .left), c .key-at .ensures)
 
-entries-returns-3 : (t : ℕ) → entries-lts.Need-returns-3 (key-at-reads.Asked, key-at-reads.Learnt, entry-at-reads.Asked, entry-at-reads.Learnt, entry-below t, entry.Post, has-key-reads.Asked, has-key-reads.Learnt) (entries-at t) entries.Post entries-Inv-loop entries-μ-loop
+entries-returns-3 : (t : ℕ) → entries-lts.Need-returns-3 (entry-at-reads.Asked, entry-at-reads.Learnt, entry-below t, entry.Post, has-key-reads.Asked, has-key-reads.Learnt, key-at-reads.Asked, key-at-reads.Learnt) (entries-at t) entries.Post entries-Inv-loop entries-μ-loop
 entries-returns-3 t c =
-    let a = c .before .before .before .before .before .before .before .args in
+    let a = c .before .before .before .before .before .before .args in
     let text = a .text .now in
     let table = a .table .now in
     let ls = tableLines text table (a .count) in
-    let l = c .before .before .before .loop in
-    let key-at′ = c .before .before .key-at in
+    let l = c .before .before .loop in
     let told = c .enum-told in
-    mapped-end ls (a .first) (a .indent) (a .levels) (a .out .now) (a .at) (l .out) (l .i) (l .p) (l .inv) (found-nothing (keyHere (a .indent) (drop (l .i) ls)) (sym (told .given .1) ∙ key-at′ .ensures))
+    mapped-end ls (a .first) (a .indent) (a .levels) (a .out .now) (a .at) (l .out) (l .i) (l .p) (l .inv .0) (found-nothing (keyHere (a .indent) (drop (l .i) ls)) (sym (told .given .1) ∙ l .inv .1))
 
 entry-add-to : (t : ℕ) → entry-lts.Need-add-to (entry-at-reads.Asked, entry-at-reads.Learnt, block-key-reads.Asked, block-key-reads.Learnt, entry-value-below t, entry-value.Post) (entry-at t) entry.Post
 entry-add-to t c =
@@ -607,64 +534,67 @@ entry-returns-3 t c =
     let v = subst (λ (k : ℕ). AgreesBlock (valueBehind k (within k (a .levels)) (numberAt table (a .i)) (columnAt table (a .i) (a .from)) (key-end′ .given .0 .0) (trim (drop (suc (a .split)) (textAt text table (a .i) (a .from)))) (drop (a .i + 1) ls)) ls (a .i + 1) (block-key′ .last .1 .1 .1 .0) (entry-value′ .last .1 .1 .1 .1 .1 .1 .1 .0) (key-end′ .given .0 .0) (entry-value′ .result)) (block-key′ .kept .1 .1 .1 .0) (entry-value′ .ensures) in
     entry-done-at text table (a .count) (a .i) (pre .1 .1) (x .result) (x .ensures) cap (a .levels) (a .at) (a .from) (a .split) (pre .1 .2) (a .out .now) _ (key-end′ .given .0 .0) w _ (next .given .0 .0) (next .given .0 .1 .0) (block-done _ ls (a .i + 1) (block-key′ .last .1 .1 .1 .0) (entry-value′ .last .1 .1 .1 .1 .1 .1 .1 .0) (key-end′ .given .0 .0) (entry-value′ .result) v (next .given .0 .0) (next .given .0 .1 .0) (next .given .1))
 
-entry-value-part-line-end : (t : ℕ) → entry-value-lts.Need-part-line-end (entry-at-reads.Asked, entry-at-reads.Learnt, behind-colon-reads.Asked, behind-colon-reads.Learnt, child-below t, child.Post, literal-reads.Asked, literal-reads.Learnt, trimmed-value-reads.Asked, trimmed-value-reads.Learnt) (entry-value-at t) entry-value.Post
+entry-value-part-line-end : (t : ℕ) → entry-value-lts.Need-part-line-end (entry-at-reads.Asked, entry-at-reads.Learnt, trimmed-reads.Asked, trimmed-reads.Learnt, behind-colon-reads.Asked, behind-colon-reads.Learnt, child-below t, child.Post, literal-reads.Asked, literal-reads.Learnt, line-value-reads.Asked, line-value-reads.Learnt) (entry-value-at t) entry-value.Post
 entry-value-part-line-end t c =
     let a = c .before .before .before .before .args in
     let text = a .text .now in
     let table = a .table .now in
     let pre = c .before .before .before .before .pre in
     let x = c .entry-at in
-    inside text table (a .count) (a .i) (pre .1 .1) (x .result) (x .ensures) (pre .1 .0)
+    entry-inside text table (a .count) (a .i) (pre .1 .1) (x .result) (x .ensures) (pre .1 .0)
 
-entry-value-child-requires : (t : ℕ) → entry-value-lts.Need-child-requires (entry-at-reads.Asked, entry-at-reads.Learnt, behind-colon-reads.Asked, behind-colon-reads.Learnt, child-below t, child.Post, literal-reads.Asked, literal-reads.Learnt, trimmed-value-reads.Asked, trimmed-value-reads.Learnt) (entry-value-at t) entry-value.Post
+entry-value-child-requires : (t : ℕ) → entry-value-lts.Need-child-requires (entry-at-reads.Asked, entry-at-reads.Learnt, trimmed-reads.Asked, trimmed-reads.Learnt, behind-colon-reads.Asked, behind-colon-reads.Learnt, child-below t, child.Post, literal-reads.Asked, literal-reads.Learnt, line-value-reads.Asked, line-value-reads.Learnt) (entry-value-at t) entry-value.Post
 entry-value-child-requires t c κs =
-    let a = c .before .before .before .before .before .before .before .before .before .before .before .before .args in
-    let pre = c .before .before .before .before .before .before .before .before .before .before .before .before .pre in
+    let a = c .before .before .before .before .before .before .before .before .before .before .before .before .before .args in
+    let pre = c .before .before .before .before .before .before .before .before .before .before .before .before .before .pre in
     (omega arith, (pre .1 .0, omega (arith, pre .1 .1), pre .1 .3, pre .1 .4))
 
-entry-value-returns : (t : ℕ) → entry-value-lts.Need-returns (entry-at-reads.Asked, entry-at-reads.Learnt, behind-colon-reads.Asked, behind-colon-reads.Learnt, child-below t, child.Post, literal-reads.Asked, literal-reads.Learnt, trimmed-value-reads.Asked, trimmed-value-reads.Learnt) (entry-value-at t) entry-value.Post
+entry-value-returns : (t : ℕ) → entry-value-lts.Need-returns (entry-at-reads.Asked, entry-at-reads.Learnt, trimmed-reads.Asked, trimmed-reads.Learnt, behind-colon-reads.Asked, behind-colon-reads.Learnt, child-below t, child.Post, literal-reads.Asked, literal-reads.Learnt, line-value-reads.Asked, line-value-reads.Learnt) (entry-value-at t) entry-value.Post
 entry-value-returns t c =
-    let a = c .before .before .before .before .before .before .before .before .before .before .before .before .before .before .before .args in
+    let a = c .before .before .before .before .before .before .before .before .before .before .before .before .before .before .before .before .args in
     let text = a .text .now in
     let table = a .table .now in
     let ls = tableLines text table (a .count) in
     let cap = length (a .out .now) in
-    let pre = c .before .before .before .before .before .before .before .before .before .before .before .before .before .before .before .pre in
-    let x = c .before .before .before .before .before .before .before .before .before .before .before .entry-at in
+    let pre = c .before .before .before .before .before .before .before .before .before .before .before .before .before .before .before .before .pre in
+    let x = c .before .before .before .before .before .before .before .before .before .before .before .before .entry-at in
+    let b = c .before .before .before .before .before .before .before .trimmed in
     let behind-colon′ = c .before .before .before .before .before .before .behind-colon in
     let told = c .before .before .before .before .enum-told in
     let child′ = c .before .before .child in
-    agrees-block _ _ ls (a .i + 1) (a .i + 1) (a .out .now) _ (a .at) (child′ .result) (value-nothing-at text table (a .count) (a .i) (pre .1 .1) (x .result) (x .ensures) cap (a .levels) (a .at) (a .from) (a .split) (sym (told .given .1) ∙ behind-colon′ .ensures)) (omega arith) (child′ .ensures)
+    agrees-block _ _ ls (a .i + 1) (a .i + 1) (a .out .now) _ (a .at) (child′ .result) (value-nothing-at text table (a .count) (a .i) (pre .1 .1) (x .result) (x .ensures) cap (a .levels) (a .at) (a .from) (a .split) (b .result .now) (b .ensures .0) (sym (told .given .1) ∙ behind-colon′ .ensures)) (omega arith) (child′ .ensures)
 
-entry-value-returns-2 : (t : ℕ) → entry-value-lts.Need-returns-2 (entry-at-reads.Asked, entry-at-reads.Learnt, behind-colon-reads.Asked, behind-colon-reads.Learnt, child-below t, child.Post, literal-reads.Asked, literal-reads.Learnt, trimmed-value-reads.Asked, trimmed-value-reads.Learnt) (entry-value-at t) entry-value.Post
+entry-value-returns-2 : (t : ℕ) → entry-value-lts.Need-returns-2 (entry-at-reads.Asked, entry-at-reads.Learnt, trimmed-reads.Asked, trimmed-reads.Learnt, behind-colon-reads.Asked, behind-colon-reads.Learnt, child-below t, child.Post, literal-reads.Asked, literal-reads.Learnt, line-value-reads.Asked, line-value-reads.Learnt) (entry-value-at t) entry-value.Post
 entry-value-returns-2 t c =
-    let a = c .before .before .before .before .before .before .before .before .before .before .before .before .before .before .before .args in
+    let a = c .before .before .before .before .before .before .before .before .before .before .before .before .before .before .before .before .args in
     let text = a .text .now in
     let table = a .table .now in
     let ls = tableLines text table (a .count) in
     let cap = length (a .out .now) in
-    let pre = c .before .before .before .before .before .before .before .before .before .before .before .before .before .before .before .pre in
-    let x = c .before .before .before .before .before .before .before .before .before .before .before .entry-at in
+    let pre = c .before .before .before .before .before .before .before .before .before .before .before .before .before .before .before .before .pre in
+    let x = c .before .before .before .before .before .before .before .before .before .before .before .before .entry-at in
+    let b = c .before .before .before .before .before .before .before .trimmed in
     let behind-colon′ = c .before .before .before .before .before .before .behind-colon in
     let told = c .before .before .before .before .enum-told2 in
     let literal′ = c .before .before .literal in
-    agrees-block _ _ ls (a .i + 1) (a .i + 1) (a .out .now) _ (a .at) (literal′ .result) (value-literal-at text table (a .count) (a .i) (pre .1 .1) (x .result) (x .ensures) cap (a .levels) (a .at) (a .from) (a .split) (sym (told .given .1) ∙ behind-colon′ .ensures)) (omega arith) (literal′ .ensures)
+    agrees-block _ _ ls (a .i + 1) (a .i + 1) (a .out .now) _ (a .at) (literal′ .result) (value-literal-at text table (a .count) (a .i) (pre .1 .1) (x .result) (x .ensures) cap (a .levels) (a .at) (a .from) (a .split) (b .result .now) (b .ensures .0) (sym (told .given .1) ∙ behind-colon′ .ensures)) (omega arith) (literal′ .ensures)
 
-entry-value-returns-3 : (t : ℕ) → entry-value-lts.Need-returns-3 (entry-at-reads.Asked, entry-at-reads.Learnt, behind-colon-reads.Asked, behind-colon-reads.Learnt, child-below t, child.Post, literal-reads.Asked, literal-reads.Learnt, trimmed-value-reads.Asked, trimmed-value-reads.Learnt) (entry-value-at t) entry-value.Post
+entry-value-returns-3 : (t : ℕ) → entry-value-lts.Need-returns-3 (entry-at-reads.Asked, entry-at-reads.Learnt, trimmed-reads.Asked, trimmed-reads.Learnt, behind-colon-reads.Asked, behind-colon-reads.Learnt, child-below t, child.Post, literal-reads.Asked, literal-reads.Learnt, line-value-reads.Asked, line-value-reads.Learnt) (entry-value-at t) entry-value.Post
 entry-value-returns-3 t c =
-    let a = c .before .before .before .before .before .before .before .before .before .before .before .before .before .before .before .args in
+    let a = c .before .before .before .before .before .before .before .before .before .before .before .before .before .before .before .before .args in
     let text = a .text .now in
     let table = a .table .now in
     let ls = tableLines text table (a .count) in
     let cap = length (a .out .now) in
-    let pre = c .before .before .before .before .before .before .before .before .before .before .before .before .before .before .before .pre in
-    let x = c .before .before .before .before .before .before .before .before .before .before .before .entry-at in
+    let pre = c .before .before .before .before .before .before .before .before .before .before .before .before .before .before .before .before .pre in
+    let x = c .before .before .before .before .before .before .before .before .before .before .before .before .entry-at in
+    let b = c .before .before .before .before .before .before .before .trimmed in
     let behind-colon′ = c .before .before .before .before .before .before .behind-colon in
     let told = c .before .before .before .before .enum-told3 in
     let literal2′ = c .before .before .literal2 in
-    agrees-block _ _ ls (a .i + 1) (a .i + 1) (a .out .now) _ (a .at) (literal2′ .result) (value-stripped-at text table (a .count) (a .i) (pre .1 .1) (x .result) (x .ensures) cap (a .levels) (a .at) (a .from) (a .split) (sym (told .given .1) ∙ behind-colon′ .ensures)) (omega arith) (literal2′ .ensures)
+    agrees-block _ _ ls (a .i + 1) (a .i + 1) (a .out .now) _ (a .at) (literal2′ .result) (value-stripped-at text table (a .count) (a .i) (pre .1 .1) (x .result) (x .ensures) cap (a .levels) (a .at) (a .from) (a .split) (b .result .now) (b .ensures .0) (sym (told .given .1) ∙ behind-colon′ .ensures)) (omega arith) (literal2′ .ensures)
 
-entry-value-returns-4 : (t : ℕ) → entry-value-lts.Need-returns-4 (entry-at-reads.Asked, entry-at-reads.Learnt, behind-colon-reads.Asked, behind-colon-reads.Learnt, child-below t, child.Post, literal-reads.Asked, literal-reads.Learnt, trimmed-value-reads.Asked, trimmed-value-reads.Learnt) (entry-value-at t) entry-value.Post
+entry-value-returns-4 : (t : ℕ) → entry-value-lts.Need-returns-4 (entry-at-reads.Asked, entry-at-reads.Learnt, trimmed-reads.Asked, trimmed-reads.Learnt, behind-colon-reads.Asked, behind-colon-reads.Learnt, child-below t, child.Post, literal-reads.Asked, literal-reads.Learnt, line-value-reads.Asked, line-value-reads.Learnt) (entry-value-at t) entry-value.Post
 entry-value-returns-4 t c =
     let a = c .before .before .before .before .before .before .before .before .before .before .before .before .before .before .before .before .args in
     let text = a .text .now in
@@ -673,12 +603,13 @@ entry-value-returns-4 t c =
     let cap = length (a .out .now) in
     let pre = c .before .before .before .before .before .before .before .before .before .before .before .before .before .before .before .before .pre in
     let x = c .before .before .before .before .before .before .before .before .before .before .before .before .entry-at in
-    let behind-colon′ = c .before .before .before .before .before .before .before .behind-colon in
-    let told = c .before .before .before .before .before .enum-told4 in
-    let trimmed-value′ = c .before .before .trimmed-value in
-    agrees-block _ _ ls (a .i + 1) (a .i + 1) (a .out .now) _ (a .at) (trimmed-value′ .result) (value-line-at text table (a .count) (a .i) (pre .1 .1) (x .result) (x .ensures) cap (a .levels) (a .at) (a .from) (a .split) (sym (told .given .1) ∙ behind-colon′ .ensures)) (omega arith) (trimmed-value′ .ensures ls (in-lines text table (a .count) (a .i + 1) (omega (arith, (pre .1 .1)))))
+    let b = c .before .before .before .before .before .before .before .trimmed in
+    let behind-colon′ = c .before .before .before .before .before .before .behind-colon in
+    let told = c .before .before .before .before .enum-told4 in
+    let line-value′ = c .before .before .line-value in
+    agrees-block _ _ ls (a .i + 1) (a .i + 1) (a .out .now) _ (a .at) (line-value′ .result) (value-line-at text table (a .count) (a .i) (pre .1 .1) (x .result) (x .ensures) cap (a .levels) (a .at) (a .from) (a .split) (b .result .now) (b .ensures .0) (sym (told .given .1) ∙ behind-colon′ .ensures)) (omega arith) (line-value′ .ensures ls (in-lines text table (a .count) (a .i + 1) (omega (arith, (pre .1 .1)))))
 
-inline-mapping-returns : (t : ℕ) → inline-mapping-lts.Need-returns (entry-at-reads.Asked, entry-at-reads.Learnt, entry-below t, entry.Post, entries-below t, entries.Post, has-key-reads.Asked, has-key-reads.Learnt, put-header-reads.Asked, put-header-reads.Learnt) (inline-mapping-at t) inline-mapping.Post
+inline-mapping-returns : (t : ℕ) → inline-mapping-lts.Need-returns (entry-at-reads.Asked, entry-at-reads.Learnt, entry-below t, entry.Post, key-at-reads.Asked, key-at-reads.Learnt, entries-below t, entries.Post, has-key-reads.Asked, has-key-reads.Learnt, put-header-reads.Asked, put-header-reads.Learnt) (inline-mapping-at t) inline-mapping.Post
 inline-mapping-returns t c =
     let a = c .before .before .before .before .args in
     let text = a .text .now in
@@ -688,125 +619,137 @@ inline-mapping-returns t c =
     let if1 = c .if1 in
     inline-full cap (within cap (a .levels)) (numberAt table (a .i)) (columnAt table (a .i) (a .from)) (textAt text table (a .i) (a .from)) (a .split) (a .at) (drop (a .i + 1) ls) (omega (arith, if1 .taken))
 
-inline-mapping-entry-requires : (t : ℕ) → inline-mapping-lts.Need-entry-requires (entry-at-reads.Asked, entry-at-reads.Learnt, entry-below t, entry.Post, entries-below t, entries.Post, has-key-reads.Asked, has-key-reads.Learnt, put-header-reads.Asked, put-header-reads.Learnt) (inline-mapping-at t) inline-mapping.Post
+inline-mapping-entry-requires : (t : ℕ) → inline-mapping-lts.Need-entry-requires (entry-at-reads.Asked, entry-at-reads.Learnt, entry-below t, entry.Post, key-at-reads.Asked, key-at-reads.Learnt, entries-below t, entries.Post, has-key-reads.Asked, has-key-reads.Learnt, put-header-reads.Asked, put-header-reads.Learnt) (inline-mapping-at t) inline-mapping.Post
 inline-mapping-entry-requires t c κs =
     let a = c .before .before .before .before .before .before .before .before .args in
     let pre = c .before .before .before .before .before .before .before .before .pre in
     let if1 = c .before .before .before .before .if1 in
     (omega arith, (pre .1 .0, pre .1 .1, pre .1 .2, omega (arith, if1 .left, pre .1 .3), pre .1 .4))
 
-inline-mapping-entries-requires : (t : ℕ) → inline-mapping-lts.Need-entries-requires (entry-at-reads.Asked, entry-at-reads.Learnt, entry-below t, entry.Post, entries-below t, entries.Post, has-key-reads.Asked, has-key-reads.Learnt, put-header-reads.Asked, put-header-reads.Learnt) (inline-mapping-at t) inline-mapping.Post
-inline-mapping-entries-requires t c κs =
-    let a = c .before .before .before .before .before .before .before .before .before .before .before .before .before .before .before .args in
+inline-mapping-key-at-requires : (t : ℕ) → inline-mapping-lts.Need-key-at-requires (entry-at-reads.Asked, entry-at-reads.Learnt, entry-below t, entry.Post, key-at-reads.Asked, key-at-reads.Learnt, entries-below t, entries.Post, has-key-reads.Asked, has-key-reads.Learnt, put-header-reads.Asked, put-header-reads.Learnt) (inline-mapping-at t) inline-mapping.Post
+inline-mapping-key-at-requires t c κs =
+    let a = c .before .before .before .before .before .before .before .before .before .before .before .before .before .before .args in
     let text = a .text .now in
     let table = a .table .now in
     let ls = tableLines text table (a .count) in
-    let pre = c .before .before .before .before .before .before .before .before .before .before .before .before .before .before .before .pre in
-    let entry′ = c .before .before .before .before .before .before .entry in
-    let next = c .before .before .next in
+    let pre = c .before .before .before .before .before .before .before .before .before .before .before .before .before .before .pre in
+    let entry′ = c .before .before .before .before .before .entry in
+    let next = c .before .next in
     let w = entry-done _ _ ls (a .i + 1) (a .out .now) _ (a .at + 6) refl (entry′ .result) (entry′ .ensures) (next .given .0 .0) (next .given .0 .1 .0) (next .given .0 .1 .1 .0) (next .given .1) in
-    let n = (entry′ .kept .1 .1 .1 .1 .1 .1 .1 .0) in (omega arith, (pre .1 .0, in-table text table (a .count) (next .given .0 .0) (w .within), omega (arith, w .fits, n), omega (arith, n, pre .1 .4)))
+    (pre .1 .0, in-table text table (a .count) (next .given .0 .0) (w .within))
 
-inline-mapping-add-has-key : (t : ℕ) → inline-mapping-lts.Need-add-has-key (entry-at-reads.Asked, entry-at-reads.Learnt, entry-below t, entry.Post, entries-below t, entries.Post, has-key-reads.Asked, has-key-reads.Learnt, put-header-reads.Asked, put-header-reads.Learnt) (inline-mapping-at t) inline-mapping.Post
+inline-mapping-entries-requires : (t : ℕ) → inline-mapping-lts.Need-entries-requires (entry-at-reads.Asked, entry-at-reads.Learnt, entry-below t, entry.Post, key-at-reads.Asked, key-at-reads.Learnt, entries-below t, entries.Post, has-key-reads.Asked, has-key-reads.Learnt, put-header-reads.Asked, put-header-reads.Learnt) (inline-mapping-at t) inline-mapping.Post
+inline-mapping-entries-requires t c κs =
+    let a = c .before .before .before .before .before .before .before .before .before .before .before .before .before .before .before .before .args in
+    let text = a .text .now in
+    let table = a .table .now in
+    let ls = tableLines text table (a .count) in
+    let pre = c .before .before .before .before .before .before .before .before .before .before .before .before .before .before .before .before .pre in
+    let entry′ = c .before .before .before .before .before .before .before .entry in
+    let next = c .before .before .before .next in
+    let w = entry-done _ _ ls (a .i + 1) (a .out .now) _ (a .at + 6) refl (entry′ .result) (entry′ .ensures) (next .given .0 .0) (next .given .0 .1 .0) (next .given .0 .1 .1 .0) (next .given .1) in
+    let n = (entry′ .kept .1 .1 .1 .1 .1 .1 .1 .0) in (omega arith, (pre .1 .0, in-table text table (a .count) (next .given .0 .0) (w .within), c .before .key-at .ensures, omega (arith, w .fits, n), omega (arith, n, pre .1 .4)))
+
+inline-mapping-add-has-key : (t : ℕ) → inline-mapping-lts.Need-add-has-key (entry-at-reads.Asked, entry-at-reads.Learnt, entry-below t, entry.Post, key-at-reads.Asked, key-at-reads.Learnt, entries-below t, entries.Post, has-key-reads.Asked, has-key-reads.Learnt, put-header-reads.Asked, put-header-reads.Learnt) (inline-mapping-at t) inline-mapping.Post
 inline-mapping-add-has-key t c =
-    let a = c .before .before .before .before .before .before .before .before .before .before .before .before .before .before .before .before .before .before .before .before .before .before .args in
-    let pre = c .before .before .before .before .before .before .before .before .before .before .before .before .before .before .before .before .before .before .before .before .before .before .pre in
+    let a = c .before .before .before .before .before .before .before .before .before .before .before .before .before .before .before .before .before .before .before .before .before .before .before .args in
+    let pre = c .before .before .before .before .before .before .before .before .before .before .before .before .before .before .before .before .before .before .before .before .before .before .before .pre in
     omega (arith, pre .1 .3, pre .1 .4)
 
-inline-mapping-has-key-requires : (t : ℕ) → inline-mapping-lts.Need-has-key-requires (entry-at-reads.Asked, entry-at-reads.Learnt, entry-below t, entry.Post, entries-below t, entries.Post, has-key-reads.Asked, has-key-reads.Learnt, put-header-reads.Asked, put-header-reads.Learnt) (inline-mapping-at t) inline-mapping.Post
+inline-mapping-has-key-requires : (t : ℕ) → inline-mapping-lts.Need-has-key-requires (entry-at-reads.Asked, entry-at-reads.Learnt, entry-below t, entry.Post, key-at-reads.Asked, key-at-reads.Learnt, entries-below t, entries.Post, has-key-reads.Asked, has-key-reads.Learnt, put-header-reads.Asked, put-header-reads.Learnt) (inline-mapping-at t) inline-mapping.Post
 inline-mapping-has-key-requires t c κs =
-    let a = c .before .before .before .before .before .before .before .before .before .before .before .before .before .before .before .before .before .before .before .before .before .before .args in
+    let a = c .before .before .before .before .before .before .before .before .before .before .before .before .before .before .before .before .before .before .before .before .before .before .before .args in
     let text = a .text .now in
     let table = a .table .now in
     let ls = tableLines text table (a .count) in
     let cap = length (a .out .now) in
-    let pre = c .before .before .before .before .before .before .before .before .before .before .before .before .before .before .before .before .before .before .before .before .before .before .pre in
-    let x = c .before .before .before .before .before .before .before .before .before .before .before .before .before .before .before .before .before .entry-at in
-    let entry′ = c .before .before .before .before .before .before .before .before .before .before .before .before .before .entry in
-    let next = c .before .before .before .before .before .before .before .before .before .next in
+    let pre = c .before .before .before .before .before .before .before .before .before .before .before .before .before .before .before .before .before .before .before .before .before .before .before .pre in
+    let x = c .before .before .before .before .before .before .before .before .before .before .before .before .before .before .before .before .before .before .entry-at in
+    let entry′ = c .before .before .before .before .before .before .before .before .before .before .before .before .before .before .entry in
+    let next = c .before .before .before .before .before .before .before .before .before .before .next in
     let entries′ = c .before .before .before .before .before .before .entries in
     let n = c .before .before .n in
     let w = entry-done _ _ ls (a .i + 1) (a .out .now) _ (a .at + 6) refl (entry′ .result) (entry′ .ensures) (next .given .0 .0) (next .given .0 .1 .0) (next .given .0 .1 .1 .0) (next .given .1) in
-    let later = subst (λ (k : ℕ). AgreesBlock (entriesOf cap (within cap (a .levels)) k (next .given .0 .1 .1 .0) (drop (next .given .0 .0) ls)) ls (next .given .0 .0) (entry′ .last .1 .1 .1 .1 .1 .1 .1 .0) (entries′ .last .1 .1 .1 .1 .1 .1 .0) (next .given .0 .1 .1 .0) (entries′ .result)) (column-is text table (a .count) (a .i) (pre .1 .1) (x .result) (x .ensures) (a .from)) (subst (λ (k : ℕ). AgreesBlock (entriesOf k (within k (a .levels)) (x .result .indent + (a .from - x .result .start)) (next .given .0 .1 .1 .0) (drop (next .given .0 .0) ls)) ls (next .given .0 .0) (entry′ .last .1 .1 .1 .1 .1 .1 .1 .0) (entries′ .last .1 .1 .1 .1 .1 .1 .0) (next .given .0 .1 .1 .0) (entries′ .result)) (entry′ .kept .1 .1 .1 .1 .1 .1 .1 .0) (entries′ .ensures)) in
-    let d = block-done _ ls (next .given .0 .0) (entry′ .last .1 .1 .1 .1 .1 .1 .1 .0) (entries′ .last .1 .1 .1 .1 .1 .1 .0) (next .given .0 .1 .1 .0) (entries′ .result) later (n .given .0 .0) (n .given .0 .1 .0) (n .given .1) in
-    let n = (entry′ .kept .1 .1 .1 .1 .1 .1 .1 .0) in let m = (entries′ .kept .1 .1 .1 .1 .1 .1 .0) in (omega (arith, d .grows), omega (arith, d .fits, n, m), omega (arith, w .ends), omega (arith, w .grows, w .fits, n, m), omega (arith, n, m, pre .1 .4))
+    let later = subst (λ (k : ℕ). AgreesBlock (entriesOf cap (within cap (a .levels)) k (next .given .0 .1 .1 .0) (drop (next .given .0 .0) ls)) ls (next .given .0 .0) (entry′ .last .1 .1 .1 .1 .1 .1 .1 .0) (entries′ .last .1 .1 .1 .1 .1 .1 .1 .0) (next .given .0 .1 .1 .0) (entries′ .result)) (column-is text table (a .count) (a .i) (pre .1 .1) (x .result) (x .ensures) (a .from)) (subst (λ (k : ℕ). AgreesBlock (entriesOf k (within k (a .levels)) (x .result .indent + (a .from - x .result .start)) (next .given .0 .1 .1 .0) (drop (next .given .0 .0) ls)) ls (next .given .0 .0) (entry′ .last .1 .1 .1 .1 .1 .1 .1 .0) (entries′ .last .1 .1 .1 .1 .1 .1 .1 .0) (next .given .0 .1 .1 .0) (entries′ .result)) (entry′ .kept .1 .1 .1 .1 .1 .1 .1 .0) (entries′ .ensures)) in
+    let d = block-done _ ls (next .given .0 .0) (entry′ .last .1 .1 .1 .1 .1 .1 .1 .0) (entries′ .last .1 .1 .1 .1 .1 .1 .1 .0) (next .given .0 .1 .1 .0) (entries′ .result) later (n .given .0 .0) (n .given .0 .1 .0) (n .given .1) in
+    let n = (entry′ .kept .1 .1 .1 .1 .1 .1 .1 .0) in let m = (entries′ .kept .1 .1 .1 .1 .1 .1 .1 .0) in (omega (arith, d .grows), omega (arith, d .fits, n, m), omega (arith, w .ends), omega (arith, w .grows, w .fits, n, m), omega (arith, n, m, pre .1 .4))
 
-inline-mapping-returns-2 : (t : ℕ) → inline-mapping-lts.Need-returns-2 (entry-at-reads.Asked, entry-at-reads.Learnt, entry-below t, entry.Post, entries-below t, entries.Post, has-key-reads.Asked, has-key-reads.Learnt, put-header-reads.Asked, put-header-reads.Learnt) (inline-mapping-at t) inline-mapping.Post
+inline-mapping-returns-2 : (t : ℕ) → inline-mapping-lts.Need-returns-2 (entry-at-reads.Asked, entry-at-reads.Learnt, entry-below t, entry.Post, key-at-reads.Asked, key-at-reads.Learnt, entries-below t, entries.Post, has-key-reads.Asked, has-key-reads.Learnt, put-header-reads.Asked, put-header-reads.Learnt) (inline-mapping-at t) inline-mapping.Post
 inline-mapping-returns-2 t c =
-    let a = c .before .before .before .before .before .before .before .before .before .before .before .before .before .before .before .before .before .before .before .before .before .before .before .before .args in
+    let a = c .before .before .before .before .before .before .before .before .before .before .before .before .before .before .before .before .before .before .before .before .before .before .before .before .before .args in
     let text = a .text .now in
     let table = a .table .now in
     let ls = tableLines text table (a .count) in
     let cap = length (a .out .now) in
-    let pre = c .before .before .before .before .before .before .before .before .before .before .before .before .before .before .before .before .before .before .before .before .before .before .before .before .pre in
-    let if1 = c .before .before .before .before .before .before .before .before .before .before .before .before .before .before .before .before .before .before .before .before .if1 in
-    let x = c .before .before .before .before .before .before .before .before .before .before .before .before .before .before .before .before .before .before .before .entry-at in
-    let entry′ = c .before .before .before .before .before .before .before .before .before .before .before .before .before .before .before .entry in
-    let next = c .before .before .before .before .before .before .before .before .before .before .before .next in
+    let pre = c .before .before .before .before .before .before .before .before .before .before .before .before .before .before .before .before .before .before .before .before .before .before .before .before .before .pre in
+    let if1 = c .before .before .before .before .before .before .before .before .before .before .before .before .before .before .before .before .before .before .before .before .before .if1 in
+    let x = c .before .before .before .before .before .before .before .before .before .before .before .before .before .before .before .before .before .before .before .before .entry-at in
+    let entry′ = c .before .before .before .before .before .before .before .before .before .before .before .before .before .before .before .before .entry in
+    let next = c .before .before .before .before .before .before .before .before .before .before .before .before .next in
     let entries′ = c .before .before .before .before .before .before .before .before .entries in
     let n = c .before .before .before .before .n in
     let has-key′ = c .before .has-key in
     let if2 = c .if2 in
     let w = entry-done _ _ ls (a .i + 1) (a .out .now) _ (a .at + 6) refl (entry′ .result) (entry′ .ensures) (next .given .0 .0) (next .given .0 .1 .0) (next .given .0 .1 .1 .0) (next .given .1) in
-    let later = subst (λ (k : ℕ). AgreesBlock (entriesOf cap (within cap (a .levels)) k (next .given .0 .1 .1 .0) (drop (next .given .0 .0) ls)) ls (next .given .0 .0) (entry′ .last .1 .1 .1 .1 .1 .1 .1 .0) (entries′ .last .1 .1 .1 .1 .1 .1 .0) (next .given .0 .1 .1 .0) (entries′ .result)) (column-is text table (a .count) (a .i) (pre .1 .1) (x .result) (x .ensures) (a .from)) (subst (λ (k : ℕ). AgreesBlock (entriesOf k (within k (a .levels)) (x .result .indent + (a .from - x .result .start)) (next .given .0 .1 .1 .0) (drop (next .given .0 .0) ls)) ls (next .given .0 .0) (entry′ .last .1 .1 .1 .1 .1 .1 .1 .0) (entries′ .last .1 .1 .1 .1 .1 .1 .0) (next .given .0 .1 .1 .0) (entries′ .result)) (entry′ .kept .1 .1 .1 .1 .1 .1 .1 .0) (entries′ .ensures)) in
-    let d = block-done _ ls (next .given .0 .0) (entry′ .last .1 .1 .1 .1 .1 .1 .1 .0) (entries′ .last .1 .1 .1 .1 .1 .1 .0) (next .given .0 .1 .1 .0) (entries′ .result) later (n .given .0 .0) (n .given .0 .1 .0) (n .given .1) in
+    let later = subst (λ (k : ℕ). AgreesBlock (entriesOf cap (within cap (a .levels)) k (next .given .0 .1 .1 .0) (drop (next .given .0 .0) ls)) ls (next .given .0 .0) (entry′ .last .1 .1 .1 .1 .1 .1 .1 .0) (entries′ .last .1 .1 .1 .1 .1 .1 .1 .0) (next .given .0 .1 .1 .0) (entries′ .result)) (column-is text table (a .count) (a .i) (pre .1 .1) (x .result) (x .ensures) (a .from)) (subst (λ (k : ℕ). AgreesBlock (entriesOf k (within k (a .levels)) (x .result .indent + (a .from - x .result .start)) (next .given .0 .1 .1 .0) (drop (next .given .0 .0) ls)) ls (next .given .0 .0) (entry′ .last .1 .1 .1 .1 .1 .1 .1 .0) (entries′ .last .1 .1 .1 .1 .1 .1 .1 .0) (next .given .0 .1 .1 .0) (entries′ .result)) (entry′ .kept .1 .1 .1 .1 .1 .1 .1 .0) (entries′ .ensures)) in
+    let d = block-done _ ls (next .given .0 .0) (entry′ .last .1 .1 .1 .1 .1 .1 .1 .0) (entries′ .last .1 .1 .1 .1 .1 .1 .1 .0) (next .given .0 .1 .1 .0) (entries′ .result) later (n .given .0 .0) (n .given .0 .1 .0) (n .given .1) in
     inline-twice (within cap (a .levels)) (numberAt table (a .i)) (columnAt table (a .i) (a .from)) (textAt text table (a .i) (a .from)) (a .split) (a .at) (drop (a .i + 1) ls) (a .out .now) (omega (arith, if1 .left, pre .1 .3)) ls (a .i + 1) _ (next .given .0 .0) (next .given .0 .1 .0) (next .given .0 .1 .1 .0) w _ (n .given .0 .0) (n .given .0 .1 .0) d (has-key′ .result) (has-key′ .ensures) (if2 .taken) ∙ ap (λ (k : ℕ). refused 18 k 0) (sym (x .ensures .number′))
 
-inline-mapping-sub-put-header : (t : ℕ) → inline-mapping-lts.Need-sub-put-header (entry-at-reads.Asked, entry-at-reads.Learnt, entry-below t, entry.Post, entries-below t, entries.Post, has-key-reads.Asked, has-key-reads.Learnt, put-header-reads.Asked, put-header-reads.Learnt) (inline-mapping-at t) inline-mapping.Post
+inline-mapping-sub-put-header : (t : ℕ) → inline-mapping-lts.Need-sub-put-header (entry-at-reads.Asked, entry-at-reads.Learnt, entry-below t, entry.Post, key-at-reads.Asked, key-at-reads.Learnt, entries-below t, entries.Post, has-key-reads.Asked, has-key-reads.Learnt, put-header-reads.Asked, put-header-reads.Learnt) (inline-mapping-at t) inline-mapping.Post
 inline-mapping-sub-put-header t c =
-    let a = c .before .before .before .before .before .before .before .before .before .before .before .before .before .before .before .before .before .before .before .before .before .before .before .before .before .args in
+    let a = c .before .before .before .before .before .before .before .before .before .before .before .before .before .before .before .before .before .before .before .before .before .before .before .before .before .before .args in
     let text = a .text .now in
     let table = a .table .now in
     let ls = tableLines text table (a .count) in
     let cap = length (a .out .now) in
-    let pre = c .before .before .before .before .before .before .before .before .before .before .before .before .before .before .before .before .before .before .before .before .before .before .before .before .before .pre in
-    let x = c .before .before .before .before .before .before .before .before .before .before .before .before .before .before .before .before .before .before .before .before .entry-at in
-    let entry′ = c .before .before .before .before .before .before .before .before .before .before .before .before .before .before .before .before .entry in
-    let next = c .before .before .before .before .before .before .before .before .before .before .before .before .next in
+    let pre = c .before .before .before .before .before .before .before .before .before .before .before .before .before .before .before .before .before .before .before .before .before .before .before .before .before .before .pre in
+    let x = c .before .before .before .before .before .before .before .before .before .before .before .before .before .before .before .before .before .before .before .before .before .entry-at in
+    let entry′ = c .before .before .before .before .before .before .before .before .before .before .before .before .before .before .before .before .before .entry in
+    let next = c .before .before .before .before .before .before .before .before .before .before .before .before .before .next in
     let entries′ = c .before .before .before .before .before .before .before .before .before .entries in
     let n = c .before .before .before .before .before .n in
     let w = entry-done _ _ ls (a .i + 1) (a .out .now) _ (a .at + 6) refl (entry′ .result) (entry′ .ensures) (next .given .0 .0) (next .given .0 .1 .0) (next .given .0 .1 .1 .0) (next .given .1) in
-    let later = subst (λ (k : ℕ). AgreesBlock (entriesOf cap (within cap (a .levels)) k (next .given .0 .1 .1 .0) (drop (next .given .0 .0) ls)) ls (next .given .0 .0) (entry′ .last .1 .1 .1 .1 .1 .1 .1 .0) (entries′ .last .1 .1 .1 .1 .1 .1 .0) (next .given .0 .1 .1 .0) (entries′ .result)) (column-is text table (a .count) (a .i) (pre .1 .1) (x .result) (x .ensures) (a .from)) (subst (λ (k : ℕ). AgreesBlock (entriesOf k (within k (a .levels)) (x .result .indent + (a .from - x .result .start)) (next .given .0 .1 .1 .0) (drop (next .given .0 .0) ls)) ls (next .given .0 .0) (entry′ .last .1 .1 .1 .1 .1 .1 .1 .0) (entries′ .last .1 .1 .1 .1 .1 .1 .0) (next .given .0 .1 .1 .0) (entries′ .result)) (entry′ .kept .1 .1 .1 .1 .1 .1 .1 .0) (entries′ .ensures)) in
-    let d = block-done _ ls (next .given .0 .0) (entry′ .last .1 .1 .1 .1 .1 .1 .1 .0) (entries′ .last .1 .1 .1 .1 .1 .1 .0) (next .given .0 .1 .1 .0) (entries′ .result) later (n .given .0 .0) (n .given .0 .1 .0) (n .given .1) in
-    let n = (entry′ .kept .1 .1 .1 .1 .1 .1 .1 .0) in let m = (entries′ .kept .1 .1 .1 .1 .1 .1 .0) in omega (arith, d .grows, w .grows, w .ends)
+    let later = subst (λ (k : ℕ). AgreesBlock (entriesOf cap (within cap (a .levels)) k (next .given .0 .1 .1 .0) (drop (next .given .0 .0) ls)) ls (next .given .0 .0) (entry′ .last .1 .1 .1 .1 .1 .1 .1 .0) (entries′ .last .1 .1 .1 .1 .1 .1 .1 .0) (next .given .0 .1 .1 .0) (entries′ .result)) (column-is text table (a .count) (a .i) (pre .1 .1) (x .result) (x .ensures) (a .from)) (subst (λ (k : ℕ). AgreesBlock (entriesOf k (within k (a .levels)) (x .result .indent + (a .from - x .result .start)) (next .given .0 .1 .1 .0) (drop (next .given .0 .0) ls)) ls (next .given .0 .0) (entry′ .last .1 .1 .1 .1 .1 .1 .1 .0) (entries′ .last .1 .1 .1 .1 .1 .1 .1 .0) (next .given .0 .1 .1 .0) (entries′ .result)) (entry′ .kept .1 .1 .1 .1 .1 .1 .1 .0) (entries′ .ensures)) in
+    let d = block-done _ ls (next .given .0 .0) (entry′ .last .1 .1 .1 .1 .1 .1 .1 .0) (entries′ .last .1 .1 .1 .1 .1 .1 .1 .0) (next .given .0 .1 .1 .0) (entries′ .result) later (n .given .0 .0) (n .given .0 .1 .0) (n .given .1) in
+    let n = (entry′ .kept .1 .1 .1 .1 .1 .1 .1 .0) in let m = (entries′ .kept .1 .1 .1 .1 .1 .1 .1 .0) in omega (arith, d .grows, w .grows, w .ends)
 
-inline-mapping-sub-put-header-2 : (t : ℕ) → inline-mapping-lts.Need-sub-put-header-2 (entry-at-reads.Asked, entry-at-reads.Learnt, entry-below t, entry.Post, entries-below t, entries.Post, has-key-reads.Asked, has-key-reads.Learnt, put-header-reads.Asked, put-header-reads.Learnt) (inline-mapping-at t) inline-mapping.Post
+inline-mapping-sub-put-header-2 : (t : ℕ) → inline-mapping-lts.Need-sub-put-header-2 (entry-at-reads.Asked, entry-at-reads.Learnt, entry-below t, entry.Post, key-at-reads.Asked, key-at-reads.Learnt, entries-below t, entries.Post, has-key-reads.Asked, has-key-reads.Learnt, put-header-reads.Asked, put-header-reads.Learnt) (inline-mapping-at t) inline-mapping.Post
 inline-mapping-sub-put-header-2 t c =
-    let a = c .before .before .before .before .before .before .before .before .before .before .before .before .before .before .before .before .before .before .before .before .before .before .before .before .before .args in
+    let a = c .before .before .before .before .before .before .before .before .before .before .before .before .before .before .before .before .before .before .before .before .before .before .before .before .before .before .args in
     let text = a .text .now in
     let table = a .table .now in
     let ls = tableLines text table (a .count) in
     let cap = length (a .out .now) in
-    let pre = c .before .before .before .before .before .before .before .before .before .before .before .before .before .before .before .before .before .before .before .before .before .before .before .before .before .pre in
-    let x = c .before .before .before .before .before .before .before .before .before .before .before .before .before .before .before .before .before .before .before .before .entry-at in
-    let entry′ = c .before .before .before .before .before .before .before .before .before .before .before .before .before .before .before .before .entry in
-    let next = c .before .before .before .before .before .before .before .before .before .before .before .before .next in
+    let pre = c .before .before .before .before .before .before .before .before .before .before .before .before .before .before .before .before .before .before .before .before .before .before .before .before .before .before .pre in
+    let x = c .before .before .before .before .before .before .before .before .before .before .before .before .before .before .before .before .before .before .before .before .before .entry-at in
+    let entry′ = c .before .before .before .before .before .before .before .before .before .before .before .before .before .before .before .before .before .entry in
+    let next = c .before .before .before .before .before .before .before .before .before .before .before .before .before .next in
     let entries′ = c .before .before .before .before .before .before .before .before .before .entries in
     let n = c .before .before .before .before .before .n in
     let w = entry-done _ _ ls (a .i + 1) (a .out .now) _ (a .at + 6) refl (entry′ .result) (entry′ .ensures) (next .given .0 .0) (next .given .0 .1 .0) (next .given .0 .1 .1 .0) (next .given .1) in
-    let later = subst (λ (k : ℕ). AgreesBlock (entriesOf cap (within cap (a .levels)) k (next .given .0 .1 .1 .0) (drop (next .given .0 .0) ls)) ls (next .given .0 .0) (entry′ .last .1 .1 .1 .1 .1 .1 .1 .0) (entries′ .last .1 .1 .1 .1 .1 .1 .0) (next .given .0 .1 .1 .0) (entries′ .result)) (column-is text table (a .count) (a .i) (pre .1 .1) (x .result) (x .ensures) (a .from)) (subst (λ (k : ℕ). AgreesBlock (entriesOf k (within k (a .levels)) (x .result .indent + (a .from - x .result .start)) (next .given .0 .1 .1 .0) (drop (next .given .0 .0) ls)) ls (next .given .0 .0) (entry′ .last .1 .1 .1 .1 .1 .1 .1 .0) (entries′ .last .1 .1 .1 .1 .1 .1 .0) (next .given .0 .1 .1 .0) (entries′ .result)) (entry′ .kept .1 .1 .1 .1 .1 .1 .1 .0) (entries′ .ensures)) in
-    let d = block-done _ ls (next .given .0 .0) (entry′ .last .1 .1 .1 .1 .1 .1 .1 .0) (entries′ .last .1 .1 .1 .1 .1 .1 .0) (next .given .0 .1 .1 .0) (entries′ .result) later (n .given .0 .0) (n .given .0 .1 .0) (n .given .1) in
-    let n = (entry′ .kept .1 .1 .1 .1 .1 .1 .1 .0) in let m = (entries′ .kept .1 .1 .1 .1 .1 .1 .0) in omega (arith, d .grows, w .grows, w .ends)
+    let later = subst (λ (k : ℕ). AgreesBlock (entriesOf cap (within cap (a .levels)) k (next .given .0 .1 .1 .0) (drop (next .given .0 .0) ls)) ls (next .given .0 .0) (entry′ .last .1 .1 .1 .1 .1 .1 .1 .0) (entries′ .last .1 .1 .1 .1 .1 .1 .1 .0) (next .given .0 .1 .1 .0) (entries′ .result)) (column-is text table (a .count) (a .i) (pre .1 .1) (x .result) (x .ensures) (a .from)) (subst (λ (k : ℕ). AgreesBlock (entriesOf k (within k (a .levels)) (x .result .indent + (a .from - x .result .start)) (next .given .0 .1 .1 .0) (drop (next .given .0 .0) ls)) ls (next .given .0 .0) (entry′ .last .1 .1 .1 .1 .1 .1 .1 .0) (entries′ .last .1 .1 .1 .1 .1 .1 .1 .0) (next .given .0 .1 .1 .0) (entries′ .result)) (entry′ .kept .1 .1 .1 .1 .1 .1 .1 .0) (entries′ .ensures)) in
+    let d = block-done _ ls (next .given .0 .0) (entry′ .last .1 .1 .1 .1 .1 .1 .1 .0) (entries′ .last .1 .1 .1 .1 .1 .1 .1 .0) (next .given .0 .1 .1 .0) (entries′ .result) later (n .given .0 .0) (n .given .0 .1 .0) (n .given .1) in
+    let n = (entry′ .kept .1 .1 .1 .1 .1 .1 .1 .0) in let m = (entries′ .kept .1 .1 .1 .1 .1 .1 .1 .0) in omega (arith, d .grows, w .grows, w .ends)
 
-inline-mapping-put-header-requires : (t : ℕ) → inline-mapping-lts.Need-put-header-requires (entry-at-reads.Asked, entry-at-reads.Learnt, entry-below t, entry.Post, entries-below t, entries.Post, has-key-reads.Asked, has-key-reads.Learnt, put-header-reads.Asked, put-header-reads.Learnt) (inline-mapping-at t) inline-mapping.Post
+inline-mapping-put-header-requires : (t : ℕ) → inline-mapping-lts.Need-put-header-requires (entry-at-reads.Asked, entry-at-reads.Learnt, entry-below t, entry.Post, key-at-reads.Asked, key-at-reads.Learnt, entries-below t, entries.Post, has-key-reads.Asked, has-key-reads.Learnt, put-header-reads.Asked, put-header-reads.Learnt) (inline-mapping-at t) inline-mapping.Post
 inline-mapping-put-header-requires t c κs =
-    let a = c .before .before .before .before .before .before .before .before .before .before .before .before .before .before .before .before .before .before .before .before .before .before .before .before .before .args in
+    let a = c .before .before .before .before .before .before .before .before .before .before .before .before .before .before .before .before .before .before .before .before .before .before .before .before .before .before .args in
     let text = a .text .now in
     let table = a .table .now in
     let ls = tableLines text table (a .count) in
     let cap = length (a .out .now) in
-    let pre = c .before .before .before .before .before .before .before .before .before .before .before .before .before .before .before .before .before .before .before .before .before .before .before .before .before .pre in
-    let x = c .before .before .before .before .before .before .before .before .before .before .before .before .before .before .before .before .before .before .before .before .entry-at in
-    let entry′ = c .before .before .before .before .before .before .before .before .before .before .before .before .before .before .before .before .entry in
-    let next = c .before .before .before .before .before .before .before .before .before .before .before .before .next in
+    let pre = c .before .before .before .before .before .before .before .before .before .before .before .before .before .before .before .before .before .before .before .before .before .before .before .before .before .before .pre in
+    let x = c .before .before .before .before .before .before .before .before .before .before .before .before .before .before .before .before .before .before .before .before .before .entry-at in
+    let entry′ = c .before .before .before .before .before .before .before .before .before .before .before .before .before .before .before .before .before .entry in
+    let next = c .before .before .before .before .before .before .before .before .before .before .before .before .before .next in
     let entries′ = c .before .before .before .before .before .before .before .before .before .entries in
     let n = c .before .before .before .before .before .n in
     let w = entry-done _ _ ls (a .i + 1) (a .out .now) _ (a .at + 6) refl (entry′ .result) (entry′ .ensures) (next .given .0 .0) (next .given .0 .1 .0) (next .given .0 .1 .1 .0) (next .given .1) in
-    let later = subst (λ (k : ℕ). AgreesBlock (entriesOf cap (within cap (a .levels)) k (next .given .0 .1 .1 .0) (drop (next .given .0 .0) ls)) ls (next .given .0 .0) (entry′ .last .1 .1 .1 .1 .1 .1 .1 .0) (entries′ .last .1 .1 .1 .1 .1 .1 .0) (next .given .0 .1 .1 .0) (entries′ .result)) (column-is text table (a .count) (a .i) (pre .1 .1) (x .result) (x .ensures) (a .from)) (subst (λ (k : ℕ). AgreesBlock (entriesOf k (within k (a .levels)) (x .result .indent + (a .from - x .result .start)) (next .given .0 .1 .1 .0) (drop (next .given .0 .0) ls)) ls (next .given .0 .0) (entry′ .last .1 .1 .1 .1 .1 .1 .1 .0) (entries′ .last .1 .1 .1 .1 .1 .1 .0) (next .given .0 .1 .1 .0) (entries′ .result)) (entry′ .kept .1 .1 .1 .1 .1 .1 .1 .0) (entries′ .ensures)) in
-    let d = block-done _ ls (next .given .0 .0) (entry′ .last .1 .1 .1 .1 .1 .1 .1 .0) (entries′ .last .1 .1 .1 .1 .1 .1 .0) (next .given .0 .1 .1 .0) (entries′ .result) later (n .given .0 .0) (n .given .0 .1 .0) (n .given .1) in
-    let n = (entry′ .kept .1 .1 .1 .1 .1 .1 .1 .0) in let m = (entries′ .kept .1 .1 .1 .1 .1 .1 .0) in let z : length (entry′ .last .1 .1 .1 .1 .1 .1 .1 .0) ≡ length (a .out .now) = n in let o : length (a .out .now) ≤ 1048576 = pre .1 .4 in (omega (arith, d .grows, d .fits, w .grows, w .ends, n, m), omega (arith, d .fits), omega arith)
+    let later = subst (λ (k : ℕ). AgreesBlock (entriesOf cap (within cap (a .levels)) k (next .given .0 .1 .1 .0) (drop (next .given .0 .0) ls)) ls (next .given .0 .0) (entry′ .last .1 .1 .1 .1 .1 .1 .1 .0) (entries′ .last .1 .1 .1 .1 .1 .1 .1 .0) (next .given .0 .1 .1 .0) (entries′ .result)) (column-is text table (a .count) (a .i) (pre .1 .1) (x .result) (x .ensures) (a .from)) (subst (λ (k : ℕ). AgreesBlock (entriesOf k (within k (a .levels)) (x .result .indent + (a .from - x .result .start)) (next .given .0 .1 .1 .0) (drop (next .given .0 .0) ls)) ls (next .given .0 .0) (entry′ .last .1 .1 .1 .1 .1 .1 .1 .0) (entries′ .last .1 .1 .1 .1 .1 .1 .1 .0) (next .given .0 .1 .1 .0) (entries′ .result)) (entry′ .kept .1 .1 .1 .1 .1 .1 .1 .0) (entries′ .ensures)) in
+    let d = block-done _ ls (next .given .0 .0) (entry′ .last .1 .1 .1 .1 .1 .1 .1 .0) (entries′ .last .1 .1 .1 .1 .1 .1 .1 .0) (next .given .0 .1 .1 .0) (entries′ .result) later (n .given .0 .0) (n .given .0 .1 .0) (n .given .1) in
+    let n = (entry′ .kept .1 .1 .1 .1 .1 .1 .1 .0) in let m = (entries′ .kept .1 .1 .1 .1 .1 .1 .1 .0) in let z : length (entry′ .last .1 .1 .1 .1 .1 .1 .1 .0) ≡ length (a .out .now) = n in let o : length (a .out .now) ≤ 1048576 = pre .1 .4 in (omega (arith, d .grows, d .fits, w .grows, w .ends, n, m), omega (arith, d .fits), omega arith)
 
-inline-mapping-returns-3 : (t : ℕ) → inline-mapping-lts.Need-returns-3 (entry-at-reads.Asked, entry-at-reads.Learnt, entry-below t, entry.Post, entries-below t, entries.Post, has-key-reads.Asked, has-key-reads.Learnt, put-header-reads.Asked, put-header-reads.Learnt) (inline-mapping-at t) inline-mapping.Post
+inline-mapping-returns-3 : (t : ℕ) → inline-mapping-lts.Need-returns-3 (entry-at-reads.Asked, entry-at-reads.Learnt, entry-below t, entry.Post, key-at-reads.Asked, key-at-reads.Learnt, entries-below t, entries.Post, has-key-reads.Asked, has-key-reads.Learnt, put-header-reads.Asked, put-header-reads.Learnt) (inline-mapping-at t) inline-mapping.Post
 inline-mapping-returns-3 t c =
     let a = c .before .before .before .before .before .before .before .before .before .before .before .before .before .before .args in
     let text = a .text .now in
@@ -819,44 +762,44 @@ inline-mapping-returns-3 t c =
     let e = c .before .e in
     inline-stops (within cap (a .levels)) (numberAt table (a .i)) (columnAt table (a .i) (a .from)) (textAt text table (a .i) (a .from)) (a .split) (a .at) (drop (a .i + 1) ls) (a .out .now) (omega (arith, if1 .left, pre .1 .3)) (e .given .0 .0) (entry-stopped _ _ ls (a .i + 1) (a .out .now) _ (a .at + 6) refl (entry′ .result) (entry′ .ensures) (e .given .0 .0) (e .given .1))
 
-inline-mapping-returns-4 : (t : ℕ) → inline-mapping-lts.Need-returns-4 (entry-at-reads.Asked, entry-at-reads.Learnt, entry-below t, entry.Post, entries-below t, entries.Post, has-key-reads.Asked, has-key-reads.Learnt, put-header-reads.Asked, put-header-reads.Learnt) (inline-mapping-at t) inline-mapping.Post
+inline-mapping-returns-4 : (t : ℕ) → inline-mapping-lts.Need-returns-4 (entry-at-reads.Asked, entry-at-reads.Learnt, entry-below t, entry.Post, key-at-reads.Asked, key-at-reads.Learnt, entries-below t, entries.Post, has-key-reads.Asked, has-key-reads.Learnt, put-header-reads.Asked, put-header-reads.Learnt) (inline-mapping-at t) inline-mapping.Post
 inline-mapping-returns-4 t c =
-    let a = c .before .before .before .before .before .before .before .before .before .before .before .before .before .before .before .before .before .before .before .before .before .args in
+    let a = c .before .before .before .before .before .before .before .before .before .before .before .before .before .before .before .before .before .before .before .before .before .before .args in
     let text = a .text .now in
     let table = a .table .now in
     let ls = tableLines text table (a .count) in
     let cap = length (a .out .now) in
-    let pre = c .before .before .before .before .before .before .before .before .before .before .before .before .before .before .before .before .before .before .before .before .before .pre in
-    let if1 = c .before .before .before .before .before .before .before .before .before .before .before .before .before .before .before .before .before .if1 in
-    let x = c .before .before .before .before .before .before .before .before .before .before .before .before .before .before .before .before .entry-at in
-    let entry′ = c .before .before .before .before .before .before .before .before .before .before .before .before .entry in
-    let next = c .before .before .before .before .before .before .before .before .next in
+    let pre = c .before .before .before .before .before .before .before .before .before .before .before .before .before .before .before .before .before .before .before .before .before .before .pre in
+    let if1 = c .before .before .before .before .before .before .before .before .before .before .before .before .before .before .before .before .before .before .if1 in
+    let x = c .before .before .before .before .before .before .before .before .before .before .before .before .before .before .before .before .before .entry-at in
+    let entry′ = c .before .before .before .before .before .before .before .before .before .before .before .before .before .entry in
+    let next = c .before .before .before .before .before .before .before .before .before .next in
     let entries′ = c .before .before .before .before .before .entries in
     let e2 = c .before .e2 in
     let w = entry-done _ _ ls (a .i + 1) (a .out .now) _ (a .at + 6) refl (entry′ .result) (entry′ .ensures) (next .given .0 .0) (next .given .0 .1 .0) (next .given .0 .1 .1 .0) (next .given .1) in
-    let later = subst (λ (k : ℕ). AgreesBlock (entriesOf cap (within cap (a .levels)) k (next .given .0 .1 .1 .0) (drop (next .given .0 .0) ls)) ls (next .given .0 .0) (entry′ .last .1 .1 .1 .1 .1 .1 .1 .0) (entries′ .last .1 .1 .1 .1 .1 .1 .0) (next .given .0 .1 .1 .0) (entries′ .result)) (column-is text table (a .count) (a .i) (pre .1 .1) (x .result) (x .ensures) (a .from)) (subst (λ (k : ℕ). AgreesBlock (entriesOf k (within k (a .levels)) (x .result .indent + (a .from - x .result .start)) (next .given .0 .1 .1 .0) (drop (next .given .0 .0) ls)) ls (next .given .0 .0) (entry′ .last .1 .1 .1 .1 .1 .1 .1 .0) (entries′ .last .1 .1 .1 .1 .1 .1 .0) (next .given .0 .1 .1 .0) (entries′ .result)) (entry′ .kept .1 .1 .1 .1 .1 .1 .1 .0) (entries′ .ensures)) in
-    inline-later (within cap (a .levels)) (numberAt table (a .i)) (columnAt table (a .i) (a .from)) (textAt text table (a .i) (a .from)) (a .split) (a .at) (drop (a .i + 1) ls) (a .out .now) (omega (arith, if1 .left, pre .1 .3)) ls (a .i + 1) _ (next .given .0 .0) (next .given .0 .1 .0) (next .given .0 .1 .1 .0) w (e2 .given .0 .0) (block-stopped _ ls (next .given .0 .0) (entry′ .last .1 .1 .1 .1 .1 .1 .1 .0) (entries′ .last .1 .1 .1 .1 .1 .1 .0) (next .given .0 .1 .1 .0) (entries′ .result) later (e2 .given .0 .0) (e2 .given .1))
+    let later = subst (λ (k : ℕ). AgreesBlock (entriesOf cap (within cap (a .levels)) k (next .given .0 .1 .1 .0) (drop (next .given .0 .0) ls)) ls (next .given .0 .0) (entry′ .last .1 .1 .1 .1 .1 .1 .1 .0) (entries′ .last .1 .1 .1 .1 .1 .1 .1 .0) (next .given .0 .1 .1 .0) (entries′ .result)) (column-is text table (a .count) (a .i) (pre .1 .1) (x .result) (x .ensures) (a .from)) (subst (λ (k : ℕ). AgreesBlock (entriesOf k (within k (a .levels)) (x .result .indent + (a .from - x .result .start)) (next .given .0 .1 .1 .0) (drop (next .given .0 .0) ls)) ls (next .given .0 .0) (entry′ .last .1 .1 .1 .1 .1 .1 .1 .0) (entries′ .last .1 .1 .1 .1 .1 .1 .1 .0) (next .given .0 .1 .1 .0) (entries′ .result)) (entry′ .kept .1 .1 .1 .1 .1 .1 .1 .0) (entries′ .ensures)) in
+    inline-later (within cap (a .levels)) (numberAt table (a .i)) (columnAt table (a .i) (a .from)) (textAt text table (a .i) (a .from)) (a .split) (a .at) (drop (a .i + 1) ls) (a .out .now) (omega (arith, if1 .left, pre .1 .3)) ls (a .i + 1) _ (next .given .0 .0) (next .given .0 .1 .0) (next .given .0 .1 .1 .0) w (e2 .given .0 .0) (block-stopped _ ls (next .given .0 .0) (entry′ .last .1 .1 .1 .1 .1 .1 .1 .0) (entries′ .last .1 .1 .1 .1 .1 .1 .1 .0) (next .given .0 .1 .1 .0) (entries′ .result) later (e2 .given .0 .0) (e2 .given .1))
 
-inline-mapping-returns-5 : (t : ℕ) → inline-mapping-lts.Need-returns-5 (entry-at-reads.Asked, entry-at-reads.Learnt, entry-below t, entry.Post, entries-below t, entries.Post, has-key-reads.Asked, has-key-reads.Learnt, put-header-reads.Asked, put-header-reads.Learnt) (inline-mapping-at t) inline-mapping.Post
+inline-mapping-returns-5 : (t : ℕ) → inline-mapping-lts.Need-returns-5 (entry-at-reads.Asked, entry-at-reads.Learnt, entry-below t, entry.Post, key-at-reads.Asked, key-at-reads.Learnt, entries-below t, entries.Post, has-key-reads.Asked, has-key-reads.Learnt, put-header-reads.Asked, put-header-reads.Learnt) (inline-mapping-at t) inline-mapping.Post
 inline-mapping-returns-5 t c =
-    let a = c .before .before .before .before .before .before .before .before .before .before .before .before .before .before .before .before .before .before .before .before .before .before .before .before .before .before .before .before .args in
+    let a = c .before .before .before .before .before .before .before .before .before .before .before .before .before .before .before .before .before .before .before .before .before .before .before .before .before .before .before .before .before .args in
     let text = a .text .now in
     let table = a .table .now in
     let ls = tableLines text table (a .count) in
     let cap = length (a .out .now) in
-    let pre = c .before .before .before .before .before .before .before .before .before .before .before .before .before .before .before .before .before .before .before .before .before .before .before .before .before .before .before .before .pre in
-    let if1 = c .before .before .before .before .before .before .before .before .before .before .before .before .before .before .before .before .before .before .before .before .before .before .before .before .if1 in
-    let x = c .before .before .before .before .before .before .before .before .before .before .before .before .before .before .before .before .before .before .before .before .before .before .before .entry-at in
-    let entry′ = c .before .before .before .before .before .before .before .before .before .before .before .before .before .before .before .before .before .before .before .entry in
-    let next = c .before .before .before .before .before .before .before .before .before .before .before .before .before .before .before .next in
+    let pre = c .before .before .before .before .before .before .before .before .before .before .before .before .before .before .before .before .before .before .before .before .before .before .before .before .before .before .before .before .before .pre in
+    let if1 = c .before .before .before .before .before .before .before .before .before .before .before .before .before .before .before .before .before .before .before .before .before .before .before .before .before .if1 in
+    let x = c .before .before .before .before .before .before .before .before .before .before .before .before .before .before .before .before .before .before .before .before .before .before .before .before .entry-at in
+    let entry′ = c .before .before .before .before .before .before .before .before .before .before .before .before .before .before .before .before .before .before .before .before .entry in
+    let next = c .before .before .before .before .before .before .before .before .before .before .before .before .before .before .before .before .next in
     let entries′ = c .before .before .before .before .before .before .before .before .before .before .before .before .entries in
     let n = c .before .before .before .before .before .before .before .before .n in
     let has-key′ = c .before .before .before .before .before .has-key in
     let if2 = c .before .before .before .before .if2 in
     let put-header′ = c .before .before .put-header in
     let w = entry-done _ _ ls (a .i + 1) (a .out .now) _ (a .at + 6) refl (entry′ .result) (entry′ .ensures) (next .given .0 .0) (next .given .0 .1 .0) (next .given .0 .1 .1 .0) (next .given .1) in
-    let later = subst (λ (k : ℕ). AgreesBlock (entriesOf cap (within cap (a .levels)) k (next .given .0 .1 .1 .0) (drop (next .given .0 .0) ls)) ls (next .given .0 .0) (entry′ .last .1 .1 .1 .1 .1 .1 .1 .0) (entries′ .last .1 .1 .1 .1 .1 .1 .0) (next .given .0 .1 .1 .0) (entries′ .result)) (column-is text table (a .count) (a .i) (pre .1 .1) (x .result) (x .ensures) (a .from)) (subst (λ (k : ℕ). AgreesBlock (entriesOf k (within k (a .levels)) (x .result .indent + (a .from - x .result .start)) (next .given .0 .1 .1 .0) (drop (next .given .0 .0) ls)) ls (next .given .0 .0) (entry′ .last .1 .1 .1 .1 .1 .1 .1 .0) (entries′ .last .1 .1 .1 .1 .1 .1 .0) (next .given .0 .1 .1 .0) (entries′ .result)) (entry′ .kept .1 .1 .1 .1 .1 .1 .1 .0) (entries′ .ensures)) in
-    let d = block-done _ ls (next .given .0 .0) (entry′ .last .1 .1 .1 .1 .1 .1 .1 .0) (entries′ .last .1 .1 .1 .1 .1 .1 .0) (next .given .0 .1 .1 .0) (entries′ .result) later (n .given .0 .0) (n .given .0 .1 .0) (n .given .1) in
+    let later = subst (λ (k : ℕ). AgreesBlock (entriesOf cap (within cap (a .levels)) k (next .given .0 .1 .1 .0) (drop (next .given .0 .0) ls)) ls (next .given .0 .0) (entry′ .last .1 .1 .1 .1 .1 .1 .1 .0) (entries′ .last .1 .1 .1 .1 .1 .1 .1 .0) (next .given .0 .1 .1 .0) (entries′ .result)) (column-is text table (a .count) (a .i) (pre .1 .1) (x .result) (x .ensures) (a .from)) (subst (λ (k : ℕ). AgreesBlock (entriesOf k (within k (a .levels)) (x .result .indent + (a .from - x .result .start)) (next .given .0 .1 .1 .0) (drop (next .given .0 .0) ls)) ls (next .given .0 .0) (entry′ .last .1 .1 .1 .1 .1 .1 .1 .0) (entries′ .last .1 .1 .1 .1 .1 .1 .1 .0) (next .given .0 .1 .1 .0) (entries′ .result)) (entry′ .kept .1 .1 .1 .1 .1 .1 .1 .0) (entries′ .ensures)) in
+    let d = block-done _ ls (next .given .0 .0) (entry′ .last .1 .1 .1 .1 .1 .1 .1 .0) (entries′ .last .1 .1 .1 .1 .1 .1 .1 .0) (next .given .0 .1 .1 .0) (entries′ .result) later (n .given .0 .0) (n .given .0 .1 .0) (n .given .1) in
     inline-close (within cap (a .levels)) (numberAt table (a .i)) (columnAt table (a .i) (a .from)) (textAt text table (a .i) (a .from)) (a .split) (a .at) (drop (a .i + 1) ls) (a .out .now) (omega (arith, if1 .left, pre .1 .3)) ls (a .i + 1) _ (next .given .0 .0) (next .given .0 .1 .0) (next .given .0 .1 .1 .0) w _ (n .given .0 .0) (n .given .0 .1 .0) d (has-key′ .result) (has-key′ .ensures) (if2 .left) (w .on) _ (put-header′ .ensures)
 
 item-trim-start-requires : (t : ℕ) → item-lts.Need-trim-start-requires (entry-at-reads.Asked, entry-at-reads.Learnt, trim-start-reads.Asked, trim-start-reads.Learnt, child-below t, child.Post, key-end-reads.Asked, key-end-reads.Learnt, line-value-reads.Asked, line-value-reads.Learnt, inline-mapping-below t, inline-mapping.Post) (item-at t) item.Post
@@ -866,7 +809,7 @@ item-trim-start-requires t c κs =
     let table = a .table .now in
     let pre = c .before .before .before .before .before .pre in
     let x = c .before .entry-at in
-    (omega (arith, pre .1 .2, x .ensures .start′, x .ensures .end′), inside text table (a .count) (a .i) (pre .1 .1) (x .result) (x .ensures) (pre .1 .0))
+    (omega (arith, pre .1 .2, x .ensures .start′, x .ensures .end′), entry-inside text table (a .count) (a .i) (pre .1 .1) (x .result) (x .ensures) (pre .1 .0))
 
 item-child-requires : (t : ℕ) → item-lts.Need-child-requires (entry-at-reads.Asked, entry-at-reads.Learnt, trim-start-reads.Asked, trim-start-reads.Learnt, child-below t, child.Post, key-end-reads.Asked, key-end-reads.Learnt, line-value-reads.Asked, line-value-reads.Learnt, inline-mapping-below t, inline-mapping.Post) (item-at t) item.Post
 item-child-requires t c κs =
@@ -895,7 +838,7 @@ item-part-key-end-end t c =
     let table = a .table .now in
     let pre = c .before .before .before .before .before .before .before .pre in
     let x = c .before .before .before .entry-at in
-    inside text table (a .count) (a .i) (pre .1 .1) (x .result) (x .ensures) (pre .1 .0)
+    entry-inside text table (a .count) (a .i) (pre .1 .1) (x .result) (x .ensures) (pre .1 .0)
 
 item-part-line-value-end : (t : ℕ) → item-lts.Need-part-line-value-end (entry-at-reads.Asked, entry-at-reads.Learnt, trim-start-reads.Asked, trim-start-reads.Learnt, child-below t, child.Post, key-end-reads.Asked, key-end-reads.Learnt, line-value-reads.Asked, line-value-reads.Learnt, inline-mapping-below t, inline-mapping.Post) (item-at t) item.Post
 item-part-line-value-end t c =
@@ -904,7 +847,7 @@ item-part-line-value-end t c =
     let table = a .table .now in
     let pre = c .before .before .before .before .before .before .before .before .before .before .before .pre in
     let x = c .before .before .before .before .before .before .before .entry-at in
-    inside text table (a .count) (a .i) (pre .1 .1) (x .result) (x .ensures) (pre .1 .0)
+    entry-inside text table (a .count) (a .i) (pre .1 .1) (x .result) (x .ensures) (pre .1 .0)
 
 item-returns-2 : (t : ℕ) → item-lts.Need-returns-2 (entry-at-reads.Asked, entry-at-reads.Learnt, trim-start-reads.Asked, trim-start-reads.Learnt, child-below t, child.Post, key-end-reads.Asked, key-end-reads.Learnt, line-value-reads.Asked, line-value-reads.Learnt, inline-mapping-below t, inline-mapping.Post) (item-at t) item.Post
 item-returns-2 t c =
@@ -981,10 +924,8 @@ mapping-returns t c =
 
 mapping-entries-requires : (t : ℕ) → mapping-lts.Need-entries-requires (entries-below t, entries.Post, put-header-reads.Asked, put-header-reads.Learnt) (mapping-at t) mapping.Post
 mapping-entries-requires t c κs =
-    let a = c .before .before .before .before .before .args in
     let pre = c .before .before .before .before .before .pre in
-    let if1 = c .before .if1 in
-    (omega arith, (pre .1 .0, pre .1 .1, omega (arith, if1 .left), pre .1 .3))
+    (omega arith, (pre .1 .0, omega (arith, pre .1 .1), ap foundOf (sym (pre .1 .2)), omega (arith, c .before .if1 .left), pre .1 .4))
 
 mapping-sub-put-header : (t : ℕ) → mapping-lts.Need-sub-put-header (entries-below t, entries.Post, put-header-reads.Asked, put-header-reads.Learnt) (mapping-at t) mapping.Post
 mapping-sub-put-header t c =
@@ -1018,7 +959,7 @@ mapping-put-header-requires t c κs =
     let entries′ = c .before .before .before .before .before .before .entries in
     let next = c .before .before .next in
     let w = block-done _ ls (a .i) (a .out .now) _ (a .at + 6) (entries′ .result) (entries′ .ensures) (next .given .0 .0) (next .given .0 .1 .0) (next .given .1) in
-    let n = (entries′ .kept .1 .1 .1 .1 .1 .1 .0) in (omega (arith, w .grows, w .fits, n), omega (arith, w .fits, pre .1 .3), omega arith)
+    let n = (entries′ .kept .1 .1 .1 .1 .1 .1 .1 .0) in (omega (arith, w .grows, w .fits, n), omega (arith, w .fits, pre .1 .4), omega arith)
 
 mapping-returns-2 : (t : ℕ) → mapping-lts.Need-returns-2 (entries-below t, entries.Post, put-header-reads.Asked, put-header-reads.Learnt) (mapping-at t) mapping.Post
 mapping-returns-2 t c =
@@ -1031,7 +972,7 @@ mapping-returns-2 t c =
     let if1 = c .before .before .before .before .before .before .before .if1 in
     let entries′ = c .before .before .before .before .before .entries in
     let e = c .before .e in
-    map-refused cap (within cap (a .levels)) (a .indent) (a .at) (drop (a .i) ls) (omega (arith, if1 .left, pre .1 .2)) (e .given .0 .0) (block-stopped _ ls (a .i) (a .out .now) _ (a .at + 6) (entries′ .result) (entries′ .ensures) (e .given .0 .0) (e .given .1))
+    map-refused cap (within cap (a .levels)) (a .indent) (a .at) (drop (a .i) ls) (omega (arith, if1 .left, pre .1 .3)) (e .given .0 .0) (block-stopped _ ls (a .i) (a .out .now) _ (a .at + 6) (entries′ .result) (entries′ .ensures) (e .given .0 .0) (e .given .1))
 
 mapping-returns-3 : (t : ℕ) → mapping-lts.Need-returns-3 (entries-below t, entries.Post, put-header-reads.Asked, put-header-reads.Learnt) (mapping-at t) mapping.Post
 mapping-returns-3 t c =
@@ -1046,7 +987,7 @@ mapping-returns-3 t c =
     let next = c .before .before .before .before .before .next in
     let put-header′ = c .before .before .put-header in
     let w = block-done _ ls (a .i) (a .out .now) _ (a .at + 6) (entries′ .result) (entries′ .ensures) (next .given .0 .0) (next .given .0 .1 .0) (next .given .1) in
-    map-close cap (within cap (a .levels)) (a .indent) (a .at) (drop (a .i) ls) (omega (arith, if1 .left, pre .1 .2)) ls (a .i) (a .out .now) _ _ (next .given .0 .0) (next .given .0 .1 .0) w (put-header′ .ensures)
+    map-close cap (within cap (a .levels)) (a .indent) (a .at) (drop (a .i) ls) (omega (arith, if1 .left, pre .1 .3)) ls (a .i) (a .out .now) _ _ (next .given .0 .0) (next .given .0 .1 .0) w (put-header′ .ensures)
 
 abbrev sequence-Inv-loop : sequence-lts.InvT-loop
 sequence-Inv-loop text table count first indent levels out₀ at i₀ p₀ out i p = Listed (tableLines text table count) first indent levels out₀ at out i p
@@ -1178,12 +1119,12 @@ pub +block+child+entries+entry+entry-value+inline-mapping+item+mapping+sequence-
       null-reads.Learnt,
       entry-at-reads.Asked,
       entry-at-reads.Learnt,
-      opens-reads.Asked,
-      opens-reads.Learnt,
+      line-text-reads.Asked,
+      line-text-reads.Learnt,
+      opens-with-reads.Asked,
+      opens-with-reads.Learnt,
       line-value-reads.Asked,
       line-value-reads.Learnt,
-      dashed-reads.Asked,
-      dashed-reads.Learnt,
       sequence-below t,
       sequence.Post,
       mapping-below t,
@@ -1195,30 +1136,25 @@ pub +block+child+entries+entry+entry-value+inline-mapping+item+mapping+sequence-
     (λ c. search needs)
     (block-returns t)
     (λ c κs. search needs)
-    (block-sub-opens t)
-    (block-part-opens-start t)
-    (block-part-opens-end t)
     (λ c κs. search needs)
-    (block-sub-line-value t)
-    (block-part-line-value-start t)
-    (block-part-line-value-end t)
+    (λ c κs. search needs)
+    (λ c. search needs)
     (λ c. search needs)
     (λ c κs. search needs)
     (λ c. search needs)
     (block-returns-2 t)
-    (block-returns-3 t)
-    (block-sub-dashed t)
-    (block-part-dashed-start t)
-    (block-part-dashed-end t)
-    (λ c κs. search needs)
     (λ c. search needs)
     (λ c κs. search needs)
+    (λ c. search needs)
+    (block-returns-3 t)
+    (λ c. search needs)
+    (block-mapping-requires t)
     (λ c. search needs)
     (block-returns-4 t)
     (λ c. search needs)
-    (λ c κs. search needs)
+    (block-returns-5 t)
     (λ c. search needs)
-    (block-returns-5 t))
+    (block-returns-6 t))
     (λ t. child-lts.spec (
       null-reads.Asked,
       null-reads.Learnt,
@@ -1240,21 +1176,20 @@ pub +block+child+entries+entry+entry-value+inline-mapping+item+mapping+sequence-
     (λ c. search needs)
     (child-returns-3 t))
     (λ t. entries-lts.spec (
-      key-at-reads.Asked,
-      key-at-reads.Learnt,
       entry-at-reads.Asked,
       entry-at-reads.Learnt,
       entry-below t,
       entry.Post,
       has-key-reads.Asked,
       has-key-reads.Learnt,
+      key-at-reads.Asked,
+      key-at-reads.Learnt,
     )
     (entries-at t)
     entries.Post
     entries-Inv-loop
     entries-μ-loop
     (entries-loop-holds t)
-    (entries-key-at-requires t)
     (λ c. search needs)
     (λ c. search needs)
     (entries-entry-at-requires t)
@@ -1267,6 +1202,7 @@ pub +block+child+entries+entry+entry-value+inline-mapping+item+mapping+sequence-
     (entries-has-key-requires t)
     (λ c. search needs)
     (entries-returns-2 t)
+    (entries-key-at-requires t)
     (entries-loop-less t)
     (entries-loop-again t)
     (λ c. search needs)
@@ -1301,14 +1237,16 @@ pub +block+child+entries+entry+entry-value+inline-mapping+item+mapping+sequence-
     (λ t. entry-value-lts.spec (
       entry-at-reads.Asked,
       entry-at-reads.Learnt,
+      trimmed-reads.Asked,
+      trimmed-reads.Learnt,
       behind-colon-reads.Asked,
       behind-colon-reads.Learnt,
       child-below t,
       child.Post,
       literal-reads.Asked,
       literal-reads.Learnt,
-      trimmed-value-reads.Asked,
-      trimmed-value-reads.Learnt,
+      line-value-reads.Asked,
+      line-value-reads.Learnt,
     )
     (entry-value-at t)
     entry-value.Post
@@ -1323,6 +1261,7 @@ pub +block+child+entries+entry+entry-value+inline-mapping+item+mapping+sequence-
     (λ c. search needs)
     (λ c. search needs)
     (λ c κs. search needs)
+    (λ c κs. search needs)
     (λ c. search needs)
     (λ c. search needs)
     (entry-value-child-requires t)
@@ -1332,10 +1271,6 @@ pub +block+child+entries+entry+entry-value+inline-mapping+item+mapping+sequence-
     (λ c. search needs)
     (λ c. search needs)
     (λ c κs. search needs)
-    (λ c. search needs)
-    (λ c. search needs)
-    (λ c. search needs)
-    (λ c. search needs)
     (λ c. search needs)
     (λ c. search needs)
     (λ c κs. search needs)
@@ -1352,6 +1287,8 @@ pub +block+child+entries+entry+entry-value+inline-mapping+item+mapping+sequence-
       entry-at-reads.Learnt,
       entry-below t,
       entry.Post,
+      key-at-reads.Asked,
+      key-at-reads.Learnt,
       entries-below t,
       entries.Post,
       has-key-reads.Asked,
@@ -1370,6 +1307,7 @@ pub +block+child+entries+entry+entry-value+inline-mapping+item+mapping+sequence-
     (inline-mapping-entry-requires t)
     (λ c. search needs)
     (λ c. search needs)
+    (inline-mapping-key-at-requires t)
     (inline-mapping-entries-requires t)
     (λ c. search needs)
     (λ c. search needs)

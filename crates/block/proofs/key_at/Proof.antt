@@ -2,8 +2,11 @@
 use borrow.Author.Needs.{needs}
 use native.Mathlib.Omega.{arith}
 use mathlib.Core.Path.{ap, _∙_}
+use Prim.Native.Nat.{ℕ}
+use mathlib.Core.List.{List}
+use Rattle.scalar.specs.Key.{keyEnd}
 use Rattle.scalar.specs.Code.{foundOf}
-use Rattle.block.specs.Parts.{entry-ordered, entry-inside, key-end-none, key-elsewhere, key-on}
+use Rattle.block.specs.Parts.{key-end-none, key-elsewhere, key-on}
 use Rattle.block.proofs.key_at.Statement.{statement}
 use Rattle.block.proofs.key_at.Tie as tie
 
@@ -15,38 +18,15 @@ returns c =
 returns-2 : tie.Need-returns-2
 returns-2 c =
     let a = c .before .before .before .before .before .before .args in
-    let e = c .before .before .entry-at in
-    ap foundOf (key-elsewhere (a .text .now) (a .table .now) (a .count) (a .i) (e .result) (e .ensures) (a .indent) (omega (arith, c .before .before .before .before .before .before .pre .1, c .before .before .before .if1 .left)) (c .if2 .taken))
-
-sub-key-end : tie.Need-sub-key-end
-sub-key-end c =
-    let a = c .before .before .before .before .before .before .args in
-    let y = c .before .before .before .before .before .before .pre .0 in
-    let e = c .before .before .entry-at in
-    entry-ordered (a .text .now) (a .table .now) (a .count) (a .i) (e .result) (e .ensures) (y .placed) (omega (arith, c .before .before .before .before .before .before .pre .1, c .before .before .before .if1 .left))
-
-part-key-end-end : tie.Need-part-key-end-end
-part-key-end-end c =
-    let a = c .before .before .before .before .before .before .args in
-    let y = c .before .before .before .before .before .before .pre .0 in
-    let e = c .before .before .entry-at in
-    entry-inside (a .text .now) (a .table .now) (a .count) (a .i) (e .result) (e .ensures) (y .placed) (omega (arith, c .before .before .before .before .before .before .pre .1, c .before .before .before .if1 .left))
+    ap foundOf (key-elsewhere (a .text .now) (a .table .now) (a .count) (a .i) (a .indent) (omega (arith, c .before .before .before .before .before .before .pre .1, c .before .before .before .if1 .left)) (λ e. omega (arith, c .if2 .taken, c .before .before .entry-at .ensures .indent′)))
 
 returns-3 : tie.Need-returns-3
 returns-3 c =
     let a = c .before .before .before .before .before .before .before .before .args in
-    let e = c .before .before .before .before .entry-at in
-    c .key-end .ensures ∙ ap foundOf (key-on (a .text .now) (a .table .now) (a .count) (a .i) (e .result) (e .ensures) (a .indent) (omega (arith, c .before .before .before .before .before .before .before .before .pre .1, c .before .before .before .before .before .if1 .left)) (c .before .before .if2 .left))
+    c .key-end .ensures ∙ ap (λ (t : List ℕ). foundOf (keyEnd t)) (c .before .line-text .ensures .0)
+    ∙ ap foundOf (key-on (a .text .now) (a .table .now) (a .count) (a .i) (a .indent) (omega (arith, c .before .before .before .before .before .before .before .before .pre .1, c .before .before .before .before .before .if1 .left)) (omega (arith, c .before .before .before .before .entry-at .ensures .indent′, c .before .before .if2 .left)))
 
 pub key-at-spec : {M : Type 1} → statement M
 key-at-spec =
     tie.close
-    (tie.spec
-    returns
-    (λ c κs. search needs)
-    returns-2
-    sub-key-end
-    sub-key-end
-    part-key-end-end
-    (λ c κs. search needs)
-    returns-3)
+    (tie.spec returns (λ c κs. search needs) returns-2 (λ c κs. search needs) (λ c κs. search needs) returns-3)

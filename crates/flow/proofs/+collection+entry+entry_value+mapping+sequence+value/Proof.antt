@@ -8,8 +8,6 @@ use mathlib.Core.Logic.{inl, inr}
 use Rattle.scalar.specs.declared.Role.the-variants.{AsValue, AsKey}
 use borrow.Author.Tests.{not-true, not-false}
 use Rattle.refusal.specs.Told.{toldOf}
-use borrow.Author.Tests.{not-true, not-false}
-use Rattle.refusal.specs.Told.{toldOf}
 use Rattle.flow.specs.Turns.{Listed, Mapped, listed-start, listed-at, list-open, list-close, list-stuck, list-stops, list-on, list-falls, mapped-start, mapped-at, map-open, map-close, map-stops, got-entry, map-again, map-on, wrote-is, refused-is}
 use Rattle.flow.specs.Values.{agrees-of, value-end, value-double, value-single, value-anchor, value-alias, value-tag, value-plain, value-deep, value-full, value-mapping, value-sequence, value-last, value-comma, value-brace, value-there, entry-refused, entry-unnamed, entry-ends, entry-colonless, entry-halts, entry-reads}
 use borrow.Fn.Kinds.{In}
@@ -36,7 +34,7 @@ use Rattle.flow.proofs.skip_separators.Reads as skip-separators-reads
 use Rattle.flow.proofs.skip_spaces.Reads as skip-spaces-reads
 use Rattle.flow.proofs.stuck.Reads as stuck-reads
 use Rattle.item.proofs.put_header.Reads as put-header-reads
-use Rattle.keys.proofs.has_key.Reads as has-key-reads
+use Rattle.entries.proofs.has_key.Reads as has-key-reads
 use Rattle.scalar.proofs.null_at.Reads as null-at-reads
 use Rattle.scalar.proofs.plain.Reads as plain-reads
 use Rattle.scalar.proofs.double_quoted.Reads as double-quoted-reads

@@ -3,13 +3,11 @@ use borrow.Author.Needs.{needs}
 use mathlib.Core.Path.{_≡_, refl, sym, _∙_}
 use native.Mathlib.Omega.{arith}
 use Prim.Native.Nat.{_+_, _≤_, _-_}
-use lib.ListN.{length}
+use lib.ListN.{length, getD}
 use Rattle.utf8.specs.Part.{part}
-use Rattle.lines.specs.Lines.{stripComment, uncommented}
+use Rattle.lines.specs.Lines.{stripComment, uncommented, startsComment}
 use Rattle.lines.specs.Laws.{comment-none, comment-here, comment-on}
-use lib.ListN.{getD}
 use mathlib.Core.Bool.{true, false}
-use Rattle.lines.specs.Lines.{startsComment}
 use Rattle.lines.proofs.comment_at.Statement.{statement}
 use Rattle.lines.proofs.comment_at.Tie as tie
 

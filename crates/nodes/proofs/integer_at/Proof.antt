@@ -2,7 +2,7 @@
 use borrow.Author.Needs.{needs}
 use mathlib.Core.Path.{_∙_, ap}
 use Rattle.item.specs.Decode.{untwos}
-use Rattle.nodes.specs.Texts.{positive-is, negative-is}
+use Rattle.nodes.proofs.Texts.{positive-is, negative-is}
 use Rattle.nodes.proofs.integer_at.Statement.{statement}
 use Rattle.nodes.proofs.integer_at.Tie as tie
 

@@ -1,7 +1,7 @@
 -- Eight bytes are the number that they make. Assumes nothing.
 use borrow.Author.Needs.{needs}
 use native.Mathlib.Omega.{arith}
-use Rattle.nodes.specs.Laws.{eight-at}
+use Rattle.nodes.proofs.Numbers.{eight-at}
 use Rattle.nodes.proofs.number_at.Statement.{statement}
 use Rattle.nodes.proofs.number_at.Tie as tie
 

@@ -1,8 +1,8 @@
 -- What is rendered, or what stands for no text. Assumes nothing.
 use borrow.Author.Needs.{needs}
 use mathlib.Core.Path.{subst}
-use Rattle.nodes.specs.Agree.{Finds}
-use Rattle.nodes.specs.Texts.{near, empty-short, rendered-near, unwritten, found-text, found-no-text, nothing-none, no-text-stored}
+use Rattle.entries.specs.Entries.{Finds}
+use Rattle.nodes.proofs.Texts.{near, empty-short, rendered-near, unwritten, found-text, found-no-text, nothing-none, no-text-stored}
 use Rattle.nodes.proofs.put_found.Statement.{statement}
 use Rattle.nodes.proofs.put_found.Tie as tie
 

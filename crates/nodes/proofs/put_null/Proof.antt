@@ -2,8 +2,8 @@
 use borrow.Author.Needs.{needs}
 use native.Mathlib.Omega.{arith}
 use mathlib.Core.Path.{_≡_, ap, _∙_}
-use Prim.Native.Nat.{ℕ, _+_, _-_}
 use mathlib.Core.List.{[]}
+use Prim.Native.Nat.{ℕ, _+_, _-_}
 use lib.Seq.{sets}
 use Rattle.item.specs.Encode.{head, encode}
 use Rattle.item.specs.Size.{item-length}

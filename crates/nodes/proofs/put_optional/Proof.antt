@@ -1,8 +1,8 @@
 -- What is rendered, or what stands for no text. Assumes nothing.
 use borrow.Author.Needs.{needs}
 use mathlib.Core.Path.{subst}
-use Rattle.nodes.specs.Agree.{Finds}
-use Rattle.nodes.specs.Texts.{near, null-short, rendered-near, unwritten, found-optional, found-no-optional, nothing-none, no-optional-stored}
+use Rattle.entries.specs.Entries.{Finds}
+use Rattle.nodes.proofs.Texts.{near, null-short, rendered-near, unwritten, found-optional, found-no-optional, nothing-none, no-optional-stored}
 use Rattle.nodes.proofs.put_optional.Statement.{statement}
 use Rattle.nodes.proofs.put_optional.Tie as tie
 

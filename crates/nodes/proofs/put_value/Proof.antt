@@ -2,11 +2,10 @@
 use borrow.Author.Needs.{needs}
 use native.Mathlib.Omega.{arith}
 use mathlib.Core.Path.{sym, _∙_, subst}
-use Rattle.keys.specs.Laws.{inside}
-use Rattle.nodes.proofs.Lost.{no-item}
-use Rattle.nodes.specs.Agree.{Finds}
-use Rattle.nodes.specs.Laws.{value-head, value-is}
-use Rattle.nodes.specs.Texts.{near, null-short, part-short, part-near, no-value-stored, value-stored}
+use Rattle.item.proofs.Headers.{spans, an-item}
+use Rattle.entries.specs.Entries.{Finds}
+use Rattle.entries.proofs.Standing.{value-head, valued}
+use Rattle.nodes.proofs.Texts.{near, null-short, part-short, part-near, no-value-stored, value-stored}
 use Rattle.nodes.proofs.put_value.Statement.{statement}
 use Rattle.nodes.proofs.put_value.Tie as tie
 
@@ -21,28 +20,28 @@ returns-2 c =
       near _ w null-short,
       λ o f.
           let i = subst (Finds _ o) (c .before .before .before .before .before .before .before .found .given .1) f in
-          absurd (no-item _ (c .before .before .before .before .before .header-at .ensures ∙ value-head (i .value) (search needs) (i .stands)) (c .before .before .before .before .match2 .keys2)),
+          absurd (an-item _ (c .before .before .before .before .before .header-at .ensures ∙ value-head (i .value) (search needs) (i .stands)) (c .before .before .before .before .match2 .keys2)),
     )
 
 sub-put : tie.Need-sub-put
-sub-put c = let i = inside _ _ (sym (c .before .before .head .given .1) ∙ c .before .before .before .before .header-at .ensures) in omega (arith, i .start, i .order)
+sub-put c = let i = spans _ _ (sym (c .before .before .head .given .1) ∙ c .before .before .before .before .header-at .ensures) in omega (arith, i .start, i .order)
 
 part-put-start : tie.Need-part-put-start
-part-put-start c = let i = inside _ _ (sym (c .before .before .head .given .1) ∙ c .before .before .before .before .header-at .ensures) in omega (arith, i .start, i .order)
+part-put-start c = let i = spans _ _ (sym (c .before .before .head .given .1) ∙ c .before .before .before .before .header-at .ensures) in omega (arith, i .start, i .order)
 
 part-put-end : tie.Need-part-put-end
-part-put-end c = inside _ _ (sym (c .before .before .head .given .1) ∙ c .before .before .before .before .header-at .ensures) .fits
+part-put-end c = spans _ _ (sym (c .before .before .head .given .1) ∙ c .before .before .before .before .header-at .ensures) .fits
 
 put-requires : tie.Need-put-requires
-put-requires c κs = (part-short _ _ _ (inside _ _ (sym (c .before .before .before .head .given .1) ∙ c .before .before .before .before .before .header-at .ensures) .fits) (search needs), search needs)
+put-requires c κs = (part-short _ _ _ (spans _ _ (sym (c .before .before .before .head .given .1) ∙ c .before .before .before .before .before .header-at .ensures) .fits) (search needs), search needs)
 
 returns-3 : tie.Need-returns-3
 returns-3 c =
     let w = c .before .before .put .ensures in (
-      part-near _ _ _ w (inside _ _ (sym (c .before .before .before .before .before .before .head .given .1) ∙ c .before .before .before .before .before .before .before .before .header-at .ensures) .fits) (search needs),
+      part-near _ _ _ w (spans _ _ (sym (c .before .before .before .before .before .before .head .given .1) ∙ c .before .before .before .before .before .before .before .before .header-at .ensures) .fits) (search needs),
       λ o f.
           let i = subst (Finds _ o) (c .before .before .before .before .before .before .before .before .before .before .found .given .1) f in
-          let v = value-is (sym (c .before .before .before .before .before .before .head .given .1) ∙ c .before .before .before .before .before .before .before .before .header-at .ensures) (i .value) (search needs) (i .stands) in
+          let v = valued (sym (c .before .before .before .before .before .before .head .given .1) ∙ c .before .before .before .before .before .before .before .before .header-at .ensures) (i .value) (search needs) (i .stands) in
           value-stored o _ _ i (v .end) w,
     )
 

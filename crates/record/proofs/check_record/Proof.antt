@@ -7,9 +7,8 @@ use mathlib.Core.Path.{sym, ap, _∙_, subst}
 use Prim.Native.Nat.{_-_, _≤_}
 use native.Mathlib.Omega.{arith}
 use lib.ListN.{length}
-use Rattle.record.specs.Agree.{Held, Holds}
-use Rattle.record.specs.Rules.{limit}
-use Rattle.record.specs.Agree.{countOf}
+use Rattle.record.specs.Agree.{Held, Holds, countOf}
+use Rattle.meaning.specs.Rules.{limit}
 use Rattle.record.specs.Answers.{check₁, check₂, check₃, check₄}
 
 returns : tie.Need-returns

@@ -6,10 +6,10 @@ use mathlib.Core.Path.{sym, _∙_}
 use Prim.Native.Nat.{_-_}
 use lib.ListN.{drop}
 use Rattle.record.specs.Headers.{no-content-at, content-here, content-other}
-use Rattle.record.proofs.Lost.{no-header-at}
+use Rattle.item.proofs.Headers.{no-header}
 
 returns : tie.Need-returns
-returns c = let a = (c .before .before .before .args) in no-content-at (a .wanted) (drop (a .at) (a .s .now)) (no-header-at (a .s .now) (a .at) (c .before .header-at .result) (c .before .header-at .ensures) (c .match .keys2))
+returns c = let a = (c .before .before .before .args) in no-content-at (a .wanted) (drop (a .at) (a .s .now)) (no-header (a .s .now) (a .at) (c .before .header-at .result) (c .before .header-at .ensures) (c .match .keys2))
 
 returns-2 : tie.Need-returns-2
 returns-2 c = let a = (c .before .before .before .before .before .before .args) in let g = sym (c .before .before .head .given .1) ∙ (c .before .before .before .before .header-at .ensures) in let v = (c .before .before .head .given .0) in content-here (a .wanted) (a .s .now) (a .at) g (c .if1 .taken)

@@ -11,7 +11,7 @@ use Rattle.refusal.specs.Base.{oneOf}
 use Rattle.value.specs.Contents.{bytes-of}
 use Rattle.value.specs.Walks.{Read, Walks}
 use Rattle.value.specs.declared.End.{End}
-use Rattle.record.specs.Meaning.{stepFields}
+use Rattle.meaning.specs.Meaning.{stepFields}
 use Rattle.record.specs.Read.{fieldOf, asText, asOptional, asFlag, asCommand, asExpect}
 use Rattle.record.specs.Agree.{ofKind, expectKind, isStep}
 use Rattle.record.specs.Views.{text-walks, optional-walks, flag-walks, expect-walks, tree-walks, no-command, command, no-text, text-part}
@@ -21,7 +21,7 @@ use Rattle.record.proofs.step_content.Tie as tie
 use Rattle.record.proofs.step_content.Reads as reads
 use Rattle.record.proofs.step_content.Lts as lts
 use Rattle.record.proofs.value_of.Reads as value-of
-use Rattle.record.proofs.is_step_field.Reads as is-step-field
+use Rattle.meaning.proofs.is_step_field.Reads as is-step-field
 use Rattle.value.proofs.value_at.Reads as value-at
 use Rattle.record.proofs.expect_kind.Reads as expect-kind
 

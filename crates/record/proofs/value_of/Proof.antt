@@ -5,16 +5,14 @@ use Rattle.record.proofs.value_of.Tie as tie
 use mathlib.Core.Path.{sym, _∙_}
 use Prim.Native.Nat.{_-_}
 use lib.ListN.{drop}
-use Rattle.value.specs.Turns.{header-item}
-use Rattle.value.specs.Tree.{tree}
+use Rattle.item.proofs.Headers.{header-item, no-header as no-item-there}
 use Rattle.value.specs.Contents.{no-header}
 use Rattle.record.specs.Agree.{ofKind}
 use Rattle.record.specs.Views.{no-field, of-kind, other-kind}
 use Rattle.record.specs.Headers.{either-one, either-other, neither}
-use Rattle.record.proofs.Lost.{no-header-at}
 
 returns : tie.Need-returns
-returns c = let a = (c .before .before .before .args) in no-field (ofKind (a .one) (a .other)) (a .levels) (drop (a .at) (a .s .now)) (no-header (a .levels) (drop (a .at) (a .s .now)) (no-header-at (a .s .now) (a .at) (c .before .header-at .result) (c .before .header-at .ensures) (c .match .keys2)))
+returns c = let a = (c .before .before .before .args) in no-field (ofKind (a .one) (a .other)) (a .levels) (drop (a .at) (a .s .now)) (no-header (a .levels) (drop (a .at) (a .s .now)) (no-item-there (a .s .now) (a .at) (c .before .header-at .result) (c .before .header-at .ensures) (c .match .keys2)))
 
 returns-2 : tie.Need-returns-2
 returns-2 c = let a = (c .before .before .before .before .before .before .before .args) in let g = sym (c .before .before .before .head .given .1) ∙ (c .before .before .before .before .before .header-at .ensures) in let v = (c .before .before .before .head .given .0) in of-kind (a .one) (a .other) (a .levels) (a .s .now) (a .at) _ _ _ (header-item (a .s .now) (a .at) g) (either-one _ (a .one) (a .other) (c .before .if1 .taken)) (c .value-at .result) (c .value-at .ensures)

@@ -1,14 +1,14 @@
--- `hash_parts` is safe and ends: its number stays within the range. Assumes nothing.
+-- No invariant is needed; the counter ends the loop. Assumes nothing.
 use borrow.Author.Needs.{needs}
-use Prim.Native.Nat.{_-_, _≤_}
+use Prim.Native.Nat.{_-_}
 use Rattle.replay_utf8.proofs.hash_parts.Statement.{statement}
 use Rattle.replay_utf8.proofs.hash_parts.Tie as tie
 
 abbrev Inv-loop : tie.InvT-loop
-Inv-loop buf hash h₀ k₀ h k = k ≤ 289
+Inv-loop bytes hash h₀ k₀ h k = Unit {0}
 
 abbrev μ-loop : tie.MeasureT-loop
-μ-loop buf hash h₀ k₀ h k = 289 - k
+μ-loop bytes hash h₀ k₀ h k = 289 - k
 
 pub hash-parts-spec : {M : Type 1} → statement M
 hash-parts-spec =

@@ -1,14 +1,14 @@
--- `say_whites` is safe and ends: its number stays within the range. Assumes nothing.
+-- No invariant is needed; the counter ends the loop. Assumes nothing.
 use borrow.Author.Needs.{needs}
-use Prim.Native.Nat.{_-_, _≤_}
+use Prim.Native.Nat.{_≤_, _-_}
 use Rattle.replay_utf8.proofs.say_whites.Statement.{statement}
 use Rattle.replay_utf8.proofs.say_whites.Tie as tie
 
 abbrev Inv-loop : tie.InvT-loop
-Inv-loop c₀ c = c ≤ 0x120000
+Inv-loop c₀ t2 c = c ≤ 1179648
 
 abbrev μ-loop : tie.MeasureT-loop
-μ-loop c₀ c = 0x120000 - c
+μ-loop c₀ t2 c = 1179648 - c
 
 pub say-whites-spec : {M : Type 1} → statement M
 say-whites-spec =
@@ -16,6 +16,10 @@ say-whites-spec =
     (tie.spec
     Inv-loop
     μ-loop
+    (λ c. search needs)
+    (λ c κs. search needs)
+    (λ c κs. search needs)
+    (λ c κs. search needs)
     (λ c. search needs)
     (λ c κs. search needs)
     (λ c. search needs)

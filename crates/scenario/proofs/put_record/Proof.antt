@@ -1,105 +1,61 @@
--- By the header, the keys, the schema and the fields. Assumes nothing.
+-- The parts are read; then come the fields before the steps, the steps and the header. Assumes nothing.
 use borrow.Author.Needs.{needs}
-use mathlib.Core.Path.{refl, sym, _∙_, subst}
+use mathlib.Core.Path.{refl, subst, _∙_}
 use native.Mathlib.Omega.{arith}
-use lib.ListN.{length}
-use borrow.Author.Tests.{not-true, not-false}
-use Rattle.refusal.specs.Base.{bytes}
 use Rattle.lines.specs.Table.{tableLines}
-use Rattle.record.specs.Record.{joined, fields}
+use Rattle.meaning.specs.Record.{stepsItem}
+use Rattle.meaning.specs.Meanings.{stepsFrom, topOf}
 use Rattle.step_lines.specs.StepLines.{stepLines}
-use Rattle.nodes.specs.Meanings.{scalarAt, checkSchema, fieldsOf}
-use Rattle.top.specs.Agree.{KnownKeys, AgreesChecked}
-use Rattle.top.specs.Laws.{inside, value-header}
-use Rattle.scenario.specs.Agree.{AgreesMeaning}
-use Rattle.scenario.specs.Fields.{is-dict, record-21, record-22, record-schema, record-fields, record-agrees, ends-behind}
-use Rattle.scenario.proofs.Lost.{no-item}
+use Rattle.top.specs.Agree.{AgreesTop, TopInside}
+use Rattle.scenario.specs.Agree.{AgreesSteps, EndsBehind}
+use Rattle.scenario.proofs.Writing.{top-refused, steps-refused, record-wrote}
 use Rattle.scenario.proofs.put_record.Statement.{statement}
 use Rattle.scenario.proofs.put_record.Tie as tie
 
-returns : tie.Need-returns
-returns c =
-    let a = c .before .before .before .before .before .before .before .args in
-    let w = c .before .before .before .before .before .before .before .pre .0 in
-    ((refl, refl), λ y g st. absurd (no-item (c .before .header-at .result) _ _ _ (c .before .header-at .ensures ∙ value-header y w st) (c .match .keys2)))
+put-top-requires : tie.Need-put-top-requires
+put-top-requires c κs = let p = c .before .before .before .before .before .before .before .before .before .before .pre in (p .0, subst (TopInside _) (c .before .before .top .given .1) (c .before .before .before .before .read-top .ensures .0), search needs, p .2)
 
-returns-2 : tie.Need-returns-2
-returns-2 c =
-    let a = c .before .before .before .before .before .before .before .before .before .before .args in
-    let w = c .before .before .before .before .before .before .before .before .before .before .pre .0 in
-    let h = sym (c .before .before .head .given .1) ∙ c .before .before .before .before .header-at .ensures in
-    let i = inside (a .s .now) 0 h in
-    ((refl, refl), λ y g st. record-21 w h (stepLines (tableLines (a .text .now) (a .table .now) (a .count))) y st (c .if1 .taken))
-
-known-keys-requires : tie.Need-known-keys-requires
-known-keys-requires c κs =
-    let a = c .before .before .before .before .before .before .before .before .before .before .args in
-    let h = sym (c .before .before .head .given .1) ∙ c .before .before .before .before .header-at .ensures in
-    let i = inside (a .s .now) 0 h in
-    (c .before .before .before .before .before .before .before .before .before .before .pre .0, i .fits)
-
-returns-3 : tie.Need-returns-3
-returns-3 c =
-    let a = c .before .before .before .before .before .before .before .before .before .before .before .before .args in
-    let w = c .before .before .before .before .before .before .before .before .before .before .before .before .pre .0 in
-    let h = sym (c .before .before .before .before .head .given .1) ∙ c .before .before .before .before .before .before .header-at .ensures in
-    let i = inside (a .s .now) 0 h in
-    ((refl, refl), λ y g st. let d = is-dict w h y g st (c .before .before .if1 .left) in record-22 (stepLines (tableLines (a .text .now) (a .table .now) (a .count))) y (d .is) (subst (KnownKeys (d .entries)) (not-true (c .before .known-keys .result) (c .if2 .taken)) (c .before .known-keys .ensures (d .entries) (d .holds))))
-
-find-requires : tie.Need-find-requires
-find-requires c κs =
-    let a = c .before .before .before .before .before .before .before .before .before .before .before .before .before .args in
-    let h = sym (c .before .before .before .before .before .head .given .1) ∙ c .before .before .before .before .before .before .before .header-at .ensures in
-    let i = inside (a .s .now) 0 h in
-    (c .before .before .before .before .before .before .before .before .before .before .before .before .before .pre .0, i .fits)
-
-put-fields-requires : tie.Need-put-fields-requires
-put-fields-requires c κs =
-    let a = c .before .before .before .before .before .before .before .before .before .before .before .before .before .before .before .before .before .before .before .args in
-    let h = sym (c .before .before .before .before .before .before .before .before .before .before .before .head .given .1) ∙ c .before .before .before .before .before .before .before .before .before .before .before .before .before .header-at .ensures in
-    let i = inside (a .s .now) 0 h in
-    (omega (arith, i .start, i .order), i .fits, c .before .before .before .before .before .before .before .before .before .before .before .before .before .before .before .before .before .before .before .pre .0, c .before .before .before .before .before .before .before .before .before .before .before .before .before .before .before .before .before .before .before .pre .1, c .before .before .before .before .before .before .before .before .before .before .before .before .before .before .before .before .before .before .before .pre .2)
-
-returns-4 : tie.Need-returns-4
-unfolding bytes scalarAt
-returns-4 c =
-    let a = c .before .before .before .before .before .before .before .before .before .before .before .before .before .before .before .before .before .before .before .before .before .before .before .before .before .before .before .before .args in
-    let w = c .before .before .before .before .before .before .before .before .before .before .before .before .before .before .before .before .before .before .before .before .before .before .before .before .before .before .before .before .pre .0 in
-    let h = sym (c .before .before .before .before .before .before .before .before .before .before .before .before .before .before .before .before .before .before .before .before .head .given .1) ∙ c .before .before .before .before .before .before .before .before .before .before .before .before .before .before .before .before .before .before .before .before .before .before .header-at .ensures in
-    let i = inside (a .s .now) 0 h in
-    (c .before .before .before .before .before .before .before .before .put-fields .ensures .0, λ y g st. let d = is-dict w h y g st (c .before .before .before .before .before .before .before .before .before .before .before .before .before .before .before .before .before .before .if1 .left) in absurd (ends-behind (subst (AgreesMeaning (fieldsOf (stepLines (tableLines (a .text .now) (a .table .now) (a .count))) (d .entries)) (λ m. joined (fields m)) (stepLines (tableLines (a .text .now) (a .table .now) (a .count))) (a .out .now) (c .before .before .before .before .before .before .before .before .put-fields .last .1 .1 .1 .1 .1 .0) 6 (a .lines .now) (c .before .before .before .before .before .before .before .before .put-fields .last .1 .1 .1 .1 .1 .1 .0)) (c .before .before .last .given .1) (c .before .before .before .before .before .before .before .before .put-fields .ensures .1 (d .entries) (d .holds))) (c .if3 .taken)))
+put-steps-requires : tie.Need-put-steps-requires
+put-steps-requires c κs =
+    let p = c .before .before .before .before .before .before .before .before .before .before .before .before .before .before .before .before .pre in
+    let t = c .before .before .before .before .before .put-top .ensures .0 in
+    (subst (TopInside _) (c .before .before .before .before .before .before .before .before .top .given .1) (c .before .before .before .before .before .before .before .before .before .before .read-top .ensures .0) .steps, p .0, p .1, omega (arith, t .1), omega (arith, t .2, p .2))
 
 close-requires : tie.Need-close-requires
 close-requires c κs =
-    let a = c .before .before .before .before .before .before .before .before .before .before .before .before .before .before .before .before .before .before .before .before .before .before .before .before .before .before .before .before .before .args in
-    (omega (arith, c .before .if3 .left), omega arith, omega (arith, c .before .before .before .before .before .before .before .before .before .put-fields .ensures .0 .0, c .before .before .before .before .before .before .before .before .before .before .before .before .before .before .before .before .before .before .before .before .before .before .before .before .before .before .before .before .before .pre .2))
+    let t = c .before .before .before .before .before .before .before .before .before .before .before .before .before .before .put-top .ensures .0 in
+    let r = c .before .before .before .before .before .before .before .before .put-steps .ensures .0 in
+    (omega (arith, t .0, subst (EndsBehind _) (c .before .before .end .given .1) (r .ends)), search needs, omega (arith, c .before .before .before .before .before .before .before .before .before .before .before .before .before .before .before .before .before .before .before .before .before .before .before .before .before .pre .2, t .2, r .kept))
 
-returns-5 : tie.Need-returns-5
-unfolding bytes scalarAt
-returns-5 c =
-    let a = c .before .before .before .before .before .before .before .before .before .before .before .before .before .before .before .before .before .before .args in
-    let w = c .before .before .before .before .before .before .before .before .before .before .before .before .before .before .before .before .before .before .pre .0 in
-    let h = sym (c .before .before .before .before .before .before .before .before .before .before .head .given .1) ∙ c .before .before .before .before .before .before .before .before .before .before .before .before .header-at .ensures in
-    let i = inside (a .s .now) 0 h in
-    ((refl, refl), λ y g st. let d = is-dict w h y g st (c .before .before .before .before .before .before .before .before .if1 .left) in record-schema (stepLines (tableLines (a .text .now) (a .table .now) (a .count))) y (d .is) (subst (KnownKeys (d .entries)) (not-false (c .before .before .before .before .before .before .before .known-keys .result) (c .before .before .before .before .before .before .if2 .left)) (c .before .before .before .before .before .before .before .known-keys .ensures (d .entries) (d .holds))) (subst (AgreesChecked (checkSchema (scalarAt (bytes "schema") (d .entries)))) (c .before .e .given .1) (c .before .before .before .check-schema .ensures _ (c .before .before .before .before .find .ensures .1 (d .entries) (d .holds)))))
+returns : tie.Need-returns
+returns c = (
+  record { ends = tt; kept = refl; lines-kept = refl },
+  λ y g st. top-refused _ y (subst (AgreesTop _ (topOf y)) (c .before .e .given .1) (c .before .before .before .read-top .ensures .1 y g st)),
+)
 
-returns-6 : tie.Need-returns-6
-unfolding bytes scalarAt
-returns-6 c =
-    let a = c .before .before .before .before .before .before .before .before .before .before .before .before .before .before .before .before .before .before .before .before .before .before .before .before .before .before .before .args in
-    let w = c .before .before .before .before .before .before .before .before .before .before .before .before .before .before .before .before .before .before .before .before .before .before .before .before .before .before .before .pre .0 in
-    let h = sym (c .before .before .before .before .before .before .before .before .before .before .before .before .before .before .before .before .before .before .before .head .given .1) ∙ c .before .before .before .before .before .before .before .before .before .before .before .before .before .before .before .before .before .before .before .before .before .header-at .ensures in
-    let i = inside (a .s .now) 0 h in
-    (c .before .before .before .before .before .before .before .put-fields .ensures .0, λ y g st. let d = is-dict w h y g st (c .before .before .before .before .before .before .before .before .before .before .before .before .before .before .before .before .before .if1 .left) in record-fields (stepLines (tableLines (a .text .now) (a .table .now) (a .count))) y (d .is) (subst (KnownKeys (d .entries)) (not-false (c .before .before .before .before .before .before .before .before .before .before .before .before .before .before .before .before .known-keys .result) (c .before .before .before .before .before .before .before .before .before .before .before .before .before .before .before .if2 .left)) (c .before .before .before .before .before .before .before .before .before .before .before .before .before .before .before .before .known-keys .ensures (d .entries) (d .holds))) (subst (AgreesChecked (checkSchema (scalarAt (bytes "schema") (d .entries)))) (c .before .before .before .before .before .before .before .before .before .before .enum-told .given .1) (c .before .before .before .before .before .before .before .before .before .before .before .before .check-schema .ensures _ (c .before .before .before .before .before .before .before .before .before .before .before .before .before .find .ensures .1 (d .entries) (d .holds)))) ∙ subst (AgreesMeaning (fieldsOf (stepLines (tableLines (a .text .now) (a .table .now) (a .count))) (d .entries)) (λ m. joined (fields m)) (stepLines (tableLines (a .text .now) (a .table .now) (a .count))) (a .out .now) (c .before .before .before .before .before .before .before .put-fields .last .1 .1 .1 .1 .1 .0) 6 (a .lines .now) (c .before .before .before .before .before .before .before .put-fields .last .1 .1 .1 .1 .1 .1 .0)) (c .before .e2 .given .1) (c .before .before .before .before .before .before .before .put-fields .ensures .1 (d .entries) (d .holds)))
+returns-2 : tie.Need-returns-2
+returns-2 c =
+    let a = c .before .before .before .before .before .before .before .before .before .before .before .before .before .before .before .before .before .before .before .before .before .before .before .before .args in
+    let ls = stepLines (tableLines (a .text .now) (a .table .now) (a .count)) in
+    let r = c .before .before .before .before .before .before .before .put-steps .ensures in (
+      record { ends = tt; kept = r .0 .kept ∙ c .before .before .before .before .before .before .before .before .before .before .before .before .before .put-top .ensures .0 .2; lines-kept = r .0 .lines-kept },
+      λ y g st.
+          let t = subst (AgreesTop _ (topOf y)) (c .before .before .before .before .before .before .before .before .before .before .before .before .before .before .before .before .top .given .1) (c .before .before .before .before .before .before .before .before .before .before .before .before .before .before .before .before .before .before .read-top .ensures .1 y g st) in
+          steps-refused ls y (t .is) (subst (AgreesSteps (stepsFrom 1 ls (t .top .steps)) stepsItem (λ ss. ss) ls _ _ _ _ _) (c .before .e2 .given .1) (r .1 (t .top .steps) (t .stands .steps))),
+    )
 
-returns-7 : tie.Need-returns-7
-unfolding bytes scalarAt
-returns-7 c =
-    let a = c .before .before .before .before .before .before .before .before .before .before .before .before .before .before .before .before .before .before .before .before .before .before .before .before .before .before .before .before .before .before .before .before .args in
-    let w = c .before .before .before .before .before .before .before .before .before .before .before .before .before .before .before .before .before .before .before .before .before .before .before .before .before .before .before .before .before .before .before .before .pre .0 in
-    let h = sym (c .before .before .before .before .before .before .before .before .before .before .before .before .before .before .before .before .before .before .before .before .before .before .before .before .head .given .1) ∙ c .before .before .before .before .before .before .before .before .before .before .before .before .before .before .before .before .before .before .before .before .before .before .before .before .before .before .header-at .ensures in
-    let i = inside (a .s .now) 0 h in
-    ((c .before .before .close .ensures .1 ∙ c .before .before .before .before .before .before .before .before .before .before .before .before .put-fields .ensures .0 .0, c .before .before .before .before .before .before .before .before .before .before .before .before .put-fields .ensures .0 .1), λ y g st. let d = is-dict w h y g st (c .before .before .before .before .before .before .before .before .before .before .before .before .before .before .before .before .before .before .before .before .before .before .if1 .left) in record-agrees (stepLines (tableLines (a .text .now) (a .table .now) (a .count))) y (d .entries) (record-fields (stepLines (tableLines (a .text .now) (a .table .now) (a .count))) y (d .is) (subst (KnownKeys (d .entries)) (not-false (c .before .before .before .before .before .before .before .before .before .before .before .before .before .before .before .before .before .before .before .before .before .known-keys .result) (c .before .before .before .before .before .before .before .before .before .before .before .before .before .before .before .before .before .before .before .before .if2 .left)) (c .before .before .before .before .before .before .before .before .before .before .before .before .before .before .before .before .before .before .before .before .before .known-keys .ensures (d .entries) (d .holds))) (subst (AgreesChecked (checkSchema (scalarAt (bytes "schema") (d .entries)))) (c .before .before .before .before .before .before .before .before .before .before .before .before .before .before .before .enum-told .given .1) (c .before .before .before .before .before .before .before .before .before .before .before .before .before .before .before .before .before .check-schema .ensures _ (c .before .before .before .before .before .before .before .before .before .before .before .before .before .before .before .before .before .before .find .ensures .1 (d .entries) (d .holds))))) (subst (AgreesMeaning (fieldsOf (stepLines (tableLines (a .text .now) (a .table .now) (a .count))) (d .entries)) (λ m. joined (fields m)) (stepLines (tableLines (a .text .now) (a .table .now) (a .count))) (a .out .now) (c .before .before .before .before .before .before .before .before .before .before .before .before .put-fields .last .1 .1 .1 .1 .1 .0) 6 (a .lines .now) (c .before .before .before .before .before .before .before .before .before .before .before .before .put-fields .last .1 .1 .1 .1 .1 .1 .0)) (c .before .before .before .before .before .before .last .given .1) (c .before .before .before .before .before .before .before .before .before .before .before .before .put-fields .ensures .1 (d .entries) (d .holds))) (c .before .before .close .ensures .0) (c .before .before .close .ensures .1))
+returns-3 : tie.Need-returns-3
+returns-3 c =
+    let a = c .before .before .before .before .before .before .before .before .before .before .before .before .before .before .before .before .before .before .before .before .before .before .before .before .before .before .before .before .args in
+    let ls = stepLines (tableLines (a .text .now) (a .table .now) (a .count)) in
+    let q = c .before .before .before .before .before .before .before .before .before .before .before .before .before .before .before .before .before .put-top .ensures in
+    let r = c .before .before .before .before .before .before .before .before .before .before .before .put-steps .ensures in
+    let l = c .before .before .close .ensures in (
+      record { ends = omega (arith, q .0 .0, subst (EndsBehind _) (c .before .before .before .before .before .end .given .1) (r .0 .ends)); kept = l .1 ∙ r .0 .kept ∙ q .0 .2; lines-kept = r .0 .lines-kept },
+      λ y g st.
+          let t = subst (AgreesTop _ (topOf y)) (c .before .before .before .before .before .before .before .before .before .before .before .before .before .before .before .before .before .before .before .before .top .given .1) (c .before .before .before .before .before .before .before .before .before .before .before .before .before .before .before .before .before .before .before .before .before .before .read-top .ensures .1 y g st) in
+          record-wrote ls y (t .is) (q .1 (t .top) (t .stands)) (subst (AgreesSteps (stepsFrom 1 ls (t .top .steps)) stepsItem (λ ss. ss) ls _ _ _ _ _) (c .before .before .before .before .before .end .given .1) (r .1 (t .top .steps) (t .stands .steps))) (l .0) (l .1),
+    )
 
 pub put-record-spec : {M : Type 1} → statement M
 put-record-spec =
@@ -107,26 +63,16 @@ put-record-spec =
     (tie.spec
     (λ c κs. search needs)
     (λ c. search needs)
-    returns
-    returns-2
-    known-keys-requires
-    returns-3
     (λ c. search needs)
-    find-requires
-    (λ c κs. search needs)
+    put-top-requires
+    put-steps-requires
     (λ c. search needs)
     (λ c. search needs)
-    put-fields-requires
-    (λ c. search needs)
-    (λ c. search needs)
-    (λ c. search needs)
-    (λ c. search needs)
-    returns-4
     close-requires
-    returns-5
+    returns
     (λ c. search needs)
     (λ c. search needs)
-    returns-6
+    returns-2
     (λ c. search needs)
     (λ c. search needs)
-    returns-7)
+    returns-3)

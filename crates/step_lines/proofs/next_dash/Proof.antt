@@ -1,7 +1,7 @@
 -- The invariant: the dashes from here on are those from the start on. Assumes nothing.
 use borrow.Author.Needs.{needs}
 use mathlib.Core.Path.{_≡_, refl, sym, _∙_}
-use Prim.Native.Nat.{_+_, _-_, _≤_}
+use Prim.Native.Nat.{_-_, _≤_}
 use native.Mathlib.Omega.{arith}
 use lib.ListN.{drop}
 use Rattle.lines.specs.Table.{tableLines}
@@ -31,7 +31,7 @@ returns-2 c =
     let a = c .before .before .before .before .before .before .before .before .before .args in
     let l = c .before .before .before .before .before .before .loop in
     let x = c .before .before .before .before .entry-at in
-    let k = c .before .is-dash in
+    let k = c .before .dash-at in
     next-here (a .text .now) (a .table .now) (a .count) (a .indent) (a .i) (l .d) (l .inv .1) (c .before .before .before .before .before .loop-test .taken) (omega (arith, c .before .before .if1 .left, x .ensures .indent′)) (sym (k .ensures) ∙ c .if2 .taken) _ (x .ensures .number′) refl
 
 loop-again : tie.Need-loop-again Inv-loop μ-loop
@@ -39,7 +39,7 @@ loop-again c =
     let a = c .before .before .before .before .before .before .before .before .before .args in
     let l = c .before .before .before .before .before .before .loop in
     let x = c .before .before .before .before .entry-at in
-    let k = c .before .is-dash in (
+    let k = c .before .dash-at in (
       omega (arith, c .before .before .before .before .before .loop-test .taken),
       l .inv .1 ∙ dash-on (a .text .now) (a .table .now) (a .count) (a .indent) (l .d) (c .before .before .before .before .before .loop-test .taken) (omega (arith, c .before .before .if1 .left, x .ensures .indent′)) (sym (k .ensures) ∙ c .if2 .left),
     )

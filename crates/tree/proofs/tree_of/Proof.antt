@@ -5,10 +5,8 @@ use Prim.Native.Nat.{ℕ}
 use native.Mathlib.Omega.{arith}
 use Rattle.refusal.specs.Base.{refused}
 use Rattle.lines.specs.Table.{tableLines, lineAt}
-use Rattle.lines.specs.Lines.{Line}
-use Rattle.literal.specs.Rows.{rows-next}
+use Rattle.lines.specs.Rows.{rows-end, in-table, rows-next}
 use Rattle.block.specs.Steps.{block-done, block-stopped}
-use Rattle.block.specs.Places.{all-read, in-table}
 use Rattle.tree.specs.Reading.{tree-stops, tree-whole, tree-rest}
 use Rattle.tree.proofs.tree_of.Statement.{statement}
 use Rattle.tree.proofs.tree_of.Tie as tie
@@ -20,7 +18,7 @@ returns c =
     let g = c .before .before .next .given in
     let ls = tableLines (a .text .now) (a .table .now) (a .count) in
     let w = block-done _ ls 0 (a .out .now) _ 0 (b .result) (b .ensures) (g .0 .0) (g .0 .1 .0) (g .1) in
-    tree-whole ls (a .out .now) _ (g .0 .0) (g .0 .1 .0) w (all-read (a .text .now) (a .table .now) (a .count) (g .0 .0) (c .if1 .taken))
+    tree-whole ls (a .out .now) _ (g .0 .0) (g .0 .1 .0) w (rows-end (a .text .now) (a .table .now) (a .count) (g .0 .0) (c .if1 .taken))
 
 entry-at-requires : tie.Need-entry-at-requires
 entry-at-requires c κs =

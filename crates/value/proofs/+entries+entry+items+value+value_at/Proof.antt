@@ -1,5 +1,5 @@
 -- The readers of a value, an entry and the two collections, which call each other: the levels fall. Each return is a law of `Contents` or `Turns`. Assumes nothing.
-use Prim.Native.Nat.{ℕ, _<_}
+use Prim.Native.Nat.{ℕ, _<_, _+_, _*_, _-_, _≤_}
 use borrow.Fn.Kinds.{In}
 use borrow.Fn.PlainCycle.{Measures, is, falls, and}
 use Rattle.value.proofs.entries.Reads as entries
@@ -18,39 +18,28 @@ use Rattle.value.proofs.value_at.Reads as value-at′
 use Rattle.value.proofs.value_at.Kinds as value-at-kinds
 use Rattle.value.proofs.+entries+entry+items+value+value_at.Lts-value_at as value-at-lts
 use Rattle.item.proofs.header_at.Reads as header-at-reads
-use Rattle.keys.proofs.has_key.Reads as has-key-reads
+use Rattle.entries.proofs.has_key.Reads as has-key-reads
 use Rattle.utf8.proofs.is_utf8.Reads as is-utf8-reads
 use Rattle.value.proofs.scalar.Reads as scalar-reads
 use Rattle.value.proofs.+entries+entry+items+value+value_at.{statement}
 use Rattle.value.proofs.+entries+entry+items+value+value_at.Tie.{close}
 use borrow.Author.Needs.{needs}
-use mathlib.Core.Path.{_≡_, refl, sym, ap, _∙_, subst}
-use Prim.Native.Nat.{_+_, _*_, _-_, _≤_}
+use mathlib.Core.Path.{_≡_, sym, ap, _∙_, subst}
 use native.Mathlib.Omega.{arith}
 use mathlib.Core.List.{List}
 use mathlib.Core.Logic.{_⊎_, ⊎-elim}
-use mathlib.Core.Option.{none, some}
+use mathlib.Core.Option.{some}
 use lib.ListN.{length, drop, length-drop, take}
 use borrow.Author.Tests.{not-true, not-false}
-use denote.Enum.Declared.{tagOf}
 use Rattle.item.specs.Decode.{header}
 use Rattle.item.specs.Exact.{bytes-drop, Bytes}
-use Rattle.item.specs.Places.{found, header-places, headerAt}
-use Rattle.item.specs.declared.Header.{Header}
-use Rattle.item.specs.declared.Header.the-variants.{Item, Cut, PastEnd}
-use Rattle.item.proofs.Header as H
-use Rattle.keys.specs.Laws.{inside, Inside}
+use Rattle.item.specs.Places.{headerAt}
+use Rattle.item.specs.declared.Header.the-variants.{Item}
+use Rattle.item.proofs.Headers.{spans, Spans, header-item, no-header as no-item-there}
 use Rattle.value.specs.Tree.{tree, accepts}
 use Rattle.value.specs.Walks.{Walks, Follows, Read}
 use Rattle.value.specs.Contents.{bytes-of, sequence-content, mapping-content, too-deep, no-kind, no-header, content-refused, content-taken}
-use Rattle.value.specs.Turns.{header-item, Items-left, items-start, items-end, items-next, items-fail, Entries-left, entries-start, entries-end, entries-next, entries-fail, no-key, other-kind, key-not-utf8, value-refused, key-again, key-new, whole-rest, part-small}
-
--- a header that is neither Cut nor PastEnd is an item
-no-item : (s : List ℕ) (r : Header) → (tagOf H.the-type r ≡ 1) ⊎ (tagOf H.the-type r ≡ 2) → found s r ≡ none
-unfolding found
-no-item s (Item kind from to) k = absurd (⊎-elim (λ p. omega arith) (λ p. omega arith) k)
-no-item s Cut k = refl
-no-item s PastEnd k = refl
+use Rattle.value.specs.Turns.{Items-left, items-start, items-end, items-next, items-fail, Entries-left, entries-start, entries-end, entries-next, entries-fail, no-key, other-kind, key-not-utf8, value-refused, key-again, key-new, whole-rest, part-small}
 
 abbrev μ-entries : Measures 1 entries-kinds.ps ℕ
 μ-entries κs a = 4 * a .1 .0 + 3
@@ -184,8 +173,8 @@ module _ {t : ℕ} (c : Head t) where
   key-header : header (drop at s) ≡ some (c .before .head .given .0 .0, take (to - from) (drop from s), drop to s)
   key-header = header-item s at head-is
 
-  places : Inside s at from to
-  places = inside s at head-is
+  places : Spans s at from to
+  places = spans s at head-is
 
   long : 0 < length (drop at s)
   long = omega (arith, length-drop at s, c .before .before .before .before .before .pre .1 .0)
@@ -209,7 +198,7 @@ entry-returns t c =
     let a = c .before .before .before .args in
     let h = c .before .header-at in
     λ turns. no-key (a .levels) (drop (a .at) (a .s .now)) (omega (arith, length-drop (a .at) (a .s .now), c .before .before .before .pre .1 .0)) turns
-    (header-places (a .s .now) (a .at) ∙ ap (found (a .s .now)) (sym (h .ensures)) ∙ no-item (a .s .now) (h .result) (c .match .keys2))
+    (no-item-there (a .s .now) (a .at) (h .result) (h .ensures) (c .match .keys2))
 
 entry-returns-2 : (t : ℕ) → entry-lts.Need-returns-2 (header-at-reads.Asked, header-at-reads.Learnt, is-utf8-reads.Asked, is-utf8-reads.Learnt, value-at-below t, value-at′.Post, has-key-reads.Asked, has-key-reads.Learnt) (entry-at t) entry.Post
 entry-returns-2 t c = let h = c .before in λ turns. other-kind (levels h) (drop (at h) (s h)) (long h) turns _ _ _ (key-header h) (c .if1 .taken)
@@ -321,16 +310,16 @@ value-returns-5 : (t : ℕ) → value-lts.Need-returns-5 (scalar-reads.Asked, sc
 value-returns-5 t c = let a = (c .before .before .before .before .before .args) in sym (no-kind (a .levels) (a .kind) (a .content .now) (omega arith))
 
 value-at-returns : (t : ℕ) → value-at-lts.Need-returns (header-at-reads.Asked, header-at-reads.Learnt, value-below t, value.Post) (value-at-at t) value-at′.Post
-value-at-returns t c = let a = (c .before .before .before .args) in no-header (a .levels) (drop (a .at) (a .s .now)) (header-places (a .s .now) (a .at) ∙ ap (found (a .s .now)) (sym (c .before .header-at .ensures)) ∙ no-item (a .s .now) (c .before .header-at .result) (c .match .keys2))
+value-at-returns t c = let a = (c .before .before .before .args) in no-header (a .levels) (drop (a .at) (a .s .now)) (no-item-there (a .s .now) (a .at) (c .before .header-at .result) (c .before .header-at .ensures) (c .match .keys2))
 
 value-at-sub-value : (t : ℕ) → value-at-lts.Need-sub-value (header-at-reads.Asked, header-at-reads.Learnt, value-below t, value.Post) (value-at-at t) value-at′.Post
-value-at-sub-value t c = inside ((c .before .before .before .before .before .args) .s .now) ((c .before .before .before .before .before .args) .at) (sym (c .before .head .given .1) ∙ (c .before .before .before .header-at .ensures)) .order
+value-at-sub-value t c = spans ((c .before .before .before .before .before .args) .s .now) ((c .before .before .before .before .before .args) .at) (sym (c .before .head .given .1) ∙ (c .before .before .before .header-at .ensures)) .order
 
 value-at-part-value-start : (t : ℕ) → value-at-lts.Need-part-value-start (header-at-reads.Asked, header-at-reads.Learnt, value-below t, value.Post) (value-at-at t) value-at′.Post
-value-at-part-value-start t c = inside ((c .before .before .before .before .before .args) .s .now) ((c .before .before .before .before .before .args) .at) (sym (c .before .head .given .1) ∙ (c .before .before .before .header-at .ensures)) .order
+value-at-part-value-start t c = spans ((c .before .before .before .before .before .args) .s .now) ((c .before .before .before .before .before .args) .at) (sym (c .before .head .given .1) ∙ (c .before .before .before .header-at .ensures)) .order
 
 value-at-part-value-end : (t : ℕ) → value-at-lts.Need-part-value-end (header-at-reads.Asked, header-at-reads.Learnt, value-below t, value.Post) (value-at-at t) value-at′.Post
-value-at-part-value-end t c = inside ((c .before .before .before .before .before .args) .s .now) ((c .before .before .before .before .before .args) .at) (sym (c .before .head .given .1) ∙ (c .before .before .before .header-at .ensures)) .fits
+value-at-part-value-end t c = spans ((c .before .before .before .before .before .args) .s .now) ((c .before .before .before .before .before .args) .at) (sym (c .before .head .given .1) ∙ (c .before .before .before .header-at .ensures)) .fits
 
 value-at-value-requires : (t : ℕ) → value-at-lts.Need-value-requires (header-at-reads.Asked, header-at-reads.Learnt, value-below t, value.Post) (value-at-at t) value-at′.Post
 value-at-value-requires t c κs = let a = (c .before .before .before .before .before .before .args) in let v = (c .before .before .head .given .0) in (search needs, part-small (a .s .now) (v .1 .0) (v .1 .1 .0 - v .1 .0) ((c .before .before .before .before .before .before .pre) .1))
@@ -341,7 +330,7 @@ value-at-returns-2 t c =
     let v = (c .before .before .before .before .head .given .0) in
     let g = sym (c .before .before .before .before .head .given .1) ∙ (c .before .before .before .before .before .before .header-at .ensures) in
     let h = header-item (a .s .now) (a .at) g in
-    let i = inside (a .s .now) (a .at) g in
+    let i = spans (a .s .now) (a .at) g in
     let t = content-taken (a .levels) (drop (a .at) (a .s .now)) _ _ _ h (sym (c .before .value .ensures) ∙ (c .if1 .taken)) in
     record { value = t .value; is = t .is; forward = omega (arith, i .start, i .order); fits = i .fits }
 

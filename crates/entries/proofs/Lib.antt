@@ -1,0 +1,4 @@
+pub mod Standing
+pub mod Values
+pub mod Walking
+pub mod Counting

@@ -1,0 +1,29 @@
+-- What a reader of lines asks of a text and the table of its lines. Assumes nothing.
+use mathlib.Core.Path.{_≡_}
+use Prim.Native.Nat.{ℕ, _≤_}
+use mathlib.Core.List.{List, [], _∷_, _++_}
+use lib.ListN.{length}
+use Rattle.refusal.specs.Base.{ch}
+use Rattle.lines.specs.Lines.{Line}
+use Rattle.lines.specs.Table.{tableLines, Placed}
+
+-- a text that ends in a byte other than a newline
+pub record Closed (t : List ℕ) : Type 0 where
+  pub front : List ℕ
+  pub last : ℕ
+  pub is : t ≡ front ++ last ∷ []
+  pub other : last ≡ ch "\n" → ⊥
+
+-- lines of which each blank one stands before one of its indentation, and each other one ends in a byte other than a newline
+pub data Ended : List Line → Type 0 where
+  none : Ended []
+  blank : (l m : Line) (ls : List Line) → l .text ≡ [] → m .indent ≡ l .indent → Ended (m ∷ ls) → Ended (l ∷ m ∷ ls)
+  full : (l : Line) (ls : List Line) → Closed (l .text) → Ended ls → Ended (l ∷ ls)
+
+-- a text and the table of its lines
+pub record Ready (text table : List ℕ) (count : ℕ) : Type 0 where
+  pub short : length text ≤ 65535
+  pub whole : length table ≡ 8192
+  pub few : count ≤ 2048
+  pub placed : Placed text table count
+  pub ended : Ended (tableLines text table count)

@@ -1,0 +1,25 @@
+-- No invariant is needed; the counter ends the loop. Assumes nothing.
+use borrow.Author.Needs.{needs}
+use Prim.Native.Nat.{_-_}
+use Rattle.replay.proofs.records.print_steps.Statement.{statement}
+use Rattle.replay.proofs.records.print_steps.Tie as tie
+
+abbrev Inv-loop : tie.InvT-loop
+Inv-loop bytes steps number₀ number = Unit {0}
+
+abbrev μ-loop : tie.MeasureT-loop
+μ-loop bytes steps number₀ number = steps - number
+
+pub print-steps-spec : {M : Type 1} → statement M
+print-steps-spec =
+    tie.close
+    (tie.spec
+    Inv-loop
+    μ-loop
+    (λ c. search needs)
+    (λ c κs. search needs)
+    (λ c κs. search needs)
+    (λ c. search needs)
+    (λ c. search needs)
+    (λ c. search needs)
+    (λ c. search needs))

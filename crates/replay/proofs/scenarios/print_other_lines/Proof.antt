@@ -1,0 +1,28 @@
+-- The invariant keeps the end within the slice. Assumes nothing.
+use borrow.Author.Needs.{needs}
+use Prim.Native.Nat.{_≤_, _-_}
+use lib.ListN.{length}
+use Rattle.replay.proofs.scenarios.print_other_lines.Statement.{statement}
+use Rattle.replay.proofs.scenarios.print_other_lines.Tie as tie
+
+abbrev Inv-loop : tie.InvT-loop
+Inv-loop lines from n i₀ i-end i = i-end ≤ length lines
+
+abbrev μ-loop : tie.MeasureT-loop
+μ-loop lines from n i₀ i-end i = i-end - i
+
+pub print-other-lines-spec : {M : Type 1} → statement M
+print-other-lines-spec =
+    tie.close
+    (tie.spec
+    Inv-loop
+    μ-loop
+    (λ c. search needs)
+    (λ c. search needs)
+    (λ c. search needs)
+    (λ c κs. search needs)
+    (λ c. search needs)
+    (λ c. search needs)
+    (λ c. search needs)
+    (λ c. search needs)
+    (λ c. search needs))

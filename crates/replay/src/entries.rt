@@ -1,0 +1,37 @@
+// The line entries of a text.
+use crate::print::print_byte;
+use crate::print::print_bytes;
+use crate::print::print_number;
+use crate::print::print_ok;
+use crate::print::print_refusal;
+use crate::print::print_spaced;
+use lines::LinesAnswer;
+
+fn print_entry(text: &[u8], table: &[u16; 8192], i: usize) {
+    if i < 2048 {
+        let entry = lines::entry_at(table, i);
+        print_spaced(entry.indent);
+        print_byte(b':');
+        print_number(entry.number as usize);
+        print_byte(b':');
+        print_bytes(record::part(text, entry.start, entry.end));
+    }
+}
+
+fn print_entries(text: &[u8], table: &[u16; 8192], count: usize) {
+    print_ok();
+    for i in 0..count {
+        print_entry(text, table, i);
+    }
+}
+
+pub fn print_lines(text: &[u8]) {
+    if text.len() > 65535 {
+        return;
+    }
+    let mut table = [0u16; 8192];
+    match lines::read_lines(text, &mut table) {
+        LinesAnswer::Read { count } => print_entries(text, &table, count),
+        LinesAnswer::Refused(e) => print_refusal(e),
+    }
+}
