@@ -11,7 +11,7 @@ use Rattle.item.specs.Tree.{Yaml, null, seq, dict, Items, end, _◂_, Entries, 
 use Rattle.lines.specs.Lines.{Line}
 use Rattle.lines.specs.Dash.{dashed, isDash}
 use Rattle.scalar.specs.declared.Role.the-variants.{AsValue, AsKey}
-use Rattle.scalar.specs.Scalars.{text}
+use Rattle.scalar.specs.Scalars.{keyText}
 use Rattle.scalar.specs.Key.{keyEnd}
 use Rattle.scalar.specs.Read.{charge}
 use Rattle.flow.specs.Flow.{flow, fresh}
@@ -55,7 +55,7 @@ module _ (cap : ℕ) where
     ensure (not (empty t)) 14 n 0
     ensure (not (startsComplex t)) 15 n 0
     (k, sum′) ← flow cap n levels AsKey sum t
-    key ← given (text k) 16 n 0
+    key ← given (keyText k) 16 n 0
     good (key, sum′)
 
   -- the text behind the colon is a literal if `|` or `|-`, else a flow value unless empty

@@ -1,21 +1,19 @@
 // Blocks (document 01, section 3): the value that lines are, written into the work bytes as it is read. Lines are read from a table
 // of entries, of which the first `count` count; `levels` more collections may be opened; of `out` the first `at` bytes are used.
 ghost use mathlib.Core.Path.{_≡_};
-ghost use mathlib.Core.List.{List};
 ghost use mathlib.Core.Option.{some};
 ghost use Prim.Native.Nat.{_+_, _≤_, _<_, suc};
 ghost use lib.ListN.{length, drop};
 ghost use Rattle.item.specs.Tree as items;
 ghost use Rattle.utf8.specs.White.{trim, trimStart};
-ghost use Rattle.lines.specs.Lines.{Line};
 ghost use Rattle.lines.specs.Table.{tableLines, lineAt, startAt, endAt, numberAt};
 ghost use Rattle.lines.specs.Ready.{Ready};
 ghost use Rattle.scalar.specs.Code.{foundOf};
 ghost use Rattle.literal.specs.Literal as literals;
-ghost use Rattle.literal.specs.Agree.{AgreesBlock};
+ghost use Rattle.literal.specs.Contract.{ReadsLines, ReadsPart};
 ghost use Rattle.block.specs.Block as definition;
 ghost use Rattle.block.specs.Block.{startsComplex, lineValue, blockKey, valueBehind, entryAt, entriesOf, blockMap, inlineMap, itemBehind, blockSeq, within};
-ghost use Rattle.block.specs.Agree.{openingOf, behindOf, keyHere, dashHere, columnAt, textAt, Splits, AgreesKey, AgreesEntry};
+ghost use Rattle.block.specs.Contract.{openingOf, behindOf, keyHere, dashHere, columnAt, textAt, Splits, AgreesKey, ReadsEntry};
 use entries::has_key;
 use flow::Whole;
 use item::Found;
@@ -109,7 +107,7 @@ fn behind_colon(t: &[u8]) -> Behind
 
 fn null(i: usize, out: &mut [u8], at: usize) -> BlockRead
     requires { ⌜ (at ≤ length (now out)) × (length (now out) ≤ 1048576) ⌝ }
-    ensures { λ r. ⌜ ((ls : List Line) → i ≤ length ls → AgreesBlock (literals.leaf (length (now (out .entry))) at items.null (drop i ls)) ls i (now (out .entry)) (now (out .exit)) at r) ⌝ }
+    ensures { λ r. ⌜ ReadsPart (λ work ls. literals.leaf work at items.null ls) i (now (out .entry)) (now (out .exit)) at r ⌝ }
 {
     if out.len() - at < 6 {
         return BlockRead::Refused(Refusal::WorkTooShort);
@@ -131,7 +129,8 @@ fn line_value(
     at: usize,
 ) -> BlockRead
     requires { ⌜ (length (now s) ≤ 65535) × (at ≤ length (now out)) × (length (now out) ≤ 1048576) ⌝ }
-    ensures { λ r. ⌜ ((ls : List Line) → i ≤ length ls → AgreesBlock (lineValue (length (now (out .entry))) levels number at (now (s .entry)) (drop i ls)) ls i (now (out .entry)) (now (out .exit)) at r) ⌝ }
+    ensures { λ r. ⌜ ReadsPart (λ work ls. lineValue work levels number at (now (s .entry)) ls) i (now (out .entry)) (now (out .exit)) at
+        r ⌝ }
 {
     match flow::flow(s, levels, Role::AsValue, number, out, at) {
         Whole::Read { used, key: _ } => BlockRead::Done { next: i, used },
@@ -142,7 +141,8 @@ fn line_value(
 // The key before a colon.
 fn block_key(s: &[u8], levels: usize, number: u32, out: &mut [u8], at: usize) -> KeyRead
     requires { ⌜ (length (now s) ≤ 65535) × (at ≤ length (now out)) × (length (now out) ≤ 1048576) ⌝ }
-    ensures { λ r. ⌜ AgreesKey (blockKey (length (now (out .entry))) levels number at (trim (now (s .entry)))) (now (out .entry)) (now (out .exit)) at r ⌝ }
+    ensures { λ r. ⌜ AgreesKey (blockKey (length (now (out .entry))) levels number at (trim (now (s .entry)))) (now (out .entry))
+        (now (out .exit)) at r ⌝ }
 {
     let key = trimmed(s);
     if key.len() == 0 {
@@ -175,7 +175,8 @@ fn child(
     at: usize,
 ) -> BlockRead
     requires { ⌜ Ready (now text) (now table) count × (i ≤ count) × (at ≤ length (now out)) × (length (now out) ≤ 1048576) ⌝ }
-    ensures { λ r. ⌜ AgreesBlock (definition.child (length (now (out .entry))) (within (length (now (out .entry))) levels) indent at (drop i (tableLines (now (text .entry)) (now (table .entry)) count))) (tableLines (now (text .entry)) (now (table .entry)) count) i (now (out .entry)) (now (out .exit)) at r ⌝ }
+    ensures { λ r. ⌜ ReadsLines (λ work ls. definition.child work (within work levels) indent at ls) (now (text .entry))
+        (now (table .entry)) count i (now (out .entry)) (now (out .exit)) at r ⌝ }
 {
     if i == count {
         return null(i, out, at);
@@ -199,8 +200,11 @@ fn entry_value(
     out: &mut [u8],
     at: usize,
 ) -> BlockRead
-    requires { ⌜ Ready (now text) (now table) count × (i < count) × Splits (now table) i from split × (at ≤ length (now out)) × (length (now out) ≤ 1048576) ⌝ }
-    ensures { λ r. ⌜ AgreesBlock (valueBehind (length (now (out .entry))) (within (length (now (out .entry))) levels) (numberAt (now (table .entry)) i) (columnAt (now (table .entry)) i from) at (trim (drop (suc split) (textAt (now (text .entry)) (now (table .entry)) i from))) (drop (i + 1) (tableLines (now (text .entry)) (now (table .entry)) count))) (tableLines (now (text .entry)) (now (table .entry)) count) (i + 1) (now (out .entry)) (now (out .exit)) at r ⌝ }
+    requires { ⌜ Ready (now text) (now table) count × (i < count) × Splits (now table) i from split × (at ≤ length (now out))
+        × (length (now out) ≤ 1048576) ⌝ }
+    ensures { λ r. ⌜ ReadsLines (λ work ls. valueBehind work (within work levels) (numberAt (now (table .entry)) i)
+        (columnAt (now (table .entry)) i from) at (trim (drop (suc split) (textAt (now (text .entry)) (now (table .entry)) i from))) ls)
+        (now (text .entry)) (now (table .entry)) count (i + 1) (now (out .entry)) (now (out .exit)) at r ⌝ }
 {
     let entry = entry_at(table, i);
     let to = entry.end;
@@ -228,8 +232,11 @@ fn entry(
     out: &mut [u8],
     at: usize,
 ) -> EntryRead
-    requires { ⌜ Ready (now text) (now table) count × (i < count) × Splits (now table) i from split × (at ≤ length (now out)) × (length (now out) ≤ 1048576) ⌝ }
-    ensures { λ r. ⌜ AgreesEntry (entryAt (length (now (out .entry))) (within (length (now (out .entry))) levels) (numberAt (now (table .entry)) i) (columnAt (now (table .entry)) i from) (textAt (now (text .entry)) (now (table .entry)) i from) split at (drop (i + 1) (tableLines (now (text .entry)) (now (table .entry)) count))) (tableLines (now (text .entry)) (now (table .entry)) count) (i + 1) (now (out .entry)) (now (out .exit)) at r ⌝ }
+    requires { ⌜ Ready (now text) (now table) count × (i < count) × Splits (now table) i from split × (at ≤ length (now out))
+        × (length (now out) ≤ 1048576) ⌝ }
+    ensures { λ r. ⌜ ReadsEntry (λ work ls. entryAt work (within work levels) (numberAt (now (table .entry)) i)
+        (columnAt (now (table .entry)) i from) (textAt (now (text .entry)) (now (table .entry)) i from) split at ls) (now (text .entry))
+        (now (table .entry)) count (i + 1) (now (out .entry)) (now (out .exit)) at r ⌝ }
 {
     let to = from + split;
     let line = entry_at(table, i);
@@ -276,8 +283,11 @@ fn entries(
     out: &mut [u8],
     at: usize,
 ) -> BlockRead
-    requires { ⌜ Ready (now text) (now table) count × (first ≤ count) × (found ≡ foundOf (keyHere indent (drop first (tableLines (now text) (now table) count)))) × (at ≤ length (now out)) × (length (now out) ≤ 1048576) ⌝ }
-    ensures { λ r. ⌜ AgreesBlock (entriesOf (length (now (out .entry))) (within (length (now (out .entry))) levels) indent at (drop first (tableLines (now (text .entry)) (now (table .entry)) count))) (tableLines (now (text .entry)) (now (table .entry)) count) first (now (out .entry)) (now (out .exit)) at r ⌝ }
+    requires { ⌜ Ready (now text) (now table) count × (first ≤ count)
+        × (found ≡ foundOf (keyHere indent (drop first (tableLines (now text) (now table) count)))) × (at ≤ length (now out))
+        × (length (now out) ≤ 1048576) ⌝ }
+    ensures { λ r. ⌜ ReadsLines (λ work ls. entriesOf work (within work levels) indent at ls) (now (text .entry)) (now (table .entry))
+        count first (now (out .entry)) (now (out .exit)) at r ⌝ }
 {
     let mut i = first;
     let mut key = found;
@@ -318,8 +328,11 @@ fn mapping(
     out: &mut [u8],
     at: usize,
 ) -> BlockRead
-    requires { ⌜ Ready (now text) (now table) count × (i < count) × (keyHere indent (drop i (tableLines (now text) (now table) count)) ≡ some split) × (at ≤ length (now out)) × (length (now out) ≤ 1048576) ⌝ }
-    ensures { λ r. ⌜ AgreesBlock (blockMap (length (now (out .entry))) (within (length (now (out .entry))) levels) indent at (drop i (tableLines (now (text .entry)) (now (table .entry)) count))) (tableLines (now (text .entry)) (now (table .entry)) count) i (now (out .entry)) (now (out .exit)) at r ⌝ }
+    requires { ⌜ Ready (now text) (now table) count × (i < count)
+        × (keyHere indent (drop i (tableLines (now text) (now table) count)) ≡ some split) × (at ≤ length (now out))
+        × (length (now out) ≤ 1048576) ⌝ }
+    ensures { λ r. ⌜ ReadsLines (λ work ls. blockMap work (within work levels) indent at ls) (now (text .entry)) (now (table .entry))
+        count i (now (out .entry)) (now (out .exit)) at r ⌝ }
 {
     if out.len() - at < 6 {
         return BlockRead::Refused(Refusal::WorkTooShort);
@@ -355,8 +368,11 @@ fn inline_mapping(
     out: &mut [u8],
     at: usize,
 ) -> BlockRead
-    requires { ⌜ Ready (now text) (now table) count × (i < count) × Splits (now table) i from split × (at ≤ length (now out)) × (length (now out) ≤ 1048576) ⌝ }
-    ensures { λ r. ⌜ AgreesBlock (inlineMap (length (now (out .entry))) (within (length (now (out .entry))) levels) (numberAt (now (table .entry)) i) (columnAt (now (table .entry)) i from) (textAt (now (text .entry)) (now (table .entry)) i from) split at (drop (i + 1) (tableLines (now (text .entry)) (now (table .entry)) count))) (tableLines (now (text .entry)) (now (table .entry)) count) (i + 1) (now (out .entry)) (now (out .exit)) at r ⌝ }
+    requires { ⌜ Ready (now text) (now table) count × (i < count) × Splits (now table) i from split × (at ≤ length (now out))
+        × (length (now out) ≤ 1048576) ⌝ }
+    ensures { λ r. ⌜ ReadsLines (λ work ls. inlineMap work (within work levels) (numberAt (now (table .entry)) i)
+        (columnAt (now (table .entry)) i from) (textAt (now (text .entry)) (now (table .entry)) i from) split at ls) (now (text .entry))
+        (now (table .entry)) count (i + 1) (now (out .entry)) (now (out .exit)) at r ⌝ }
 {
     if out.len() - at < 6 {
         return BlockRead::Refused(Refusal::WorkTooShort);
@@ -395,8 +411,11 @@ fn item(
     out: &mut [u8],
     at: usize,
 ) -> BlockRead
-    requires { ⌜ Ready (now text) (now table) count × (i < count) × (startAt (now table) i < endAt (now table) i) × (at ≤ length (now out)) × (length (now out) ≤ 1048576) ⌝ }
-    ensures { λ r. ⌜ AgreesBlock (itemBehind (length (now (out .entry))) (within (length (now (out .entry))) levels) (lineAt (now (text .entry)) (now (table .entry)) i) at (trimStart (drop 1 (textAt (now (text .entry)) (now (table .entry)) i (startAt (now (table .entry)) i)))) (drop (i + 1) (tableLines (now (text .entry)) (now (table .entry)) count))) (tableLines (now (text .entry)) (now (table .entry)) count) (i + 1) (now (out .entry)) (now (out .exit)) at r ⌝ }
+    requires { ⌜ Ready (now text) (now table) count × (i < count) × (startAt (now table) i < endAt (now table) i)
+        × (at ≤ length (now out)) × (length (now out) ≤ 1048576) ⌝ }
+    ensures { λ r. ⌜ ReadsLines (λ work ls. itemBehind work (within work levels) (lineAt (now (text .entry)) (now (table .entry)) i) at
+        (trimStart (drop 1 (textAt (now (text .entry)) (now (table .entry)) i (startAt (now (table .entry)) i)))) ls) (now (text .entry))
+        (now (table .entry)) count (i + 1) (now (out .entry)) (now (out .exit)) at r ⌝ }
 {
     let line = entry_at(table, i);
     let end = line.end;
@@ -436,7 +455,8 @@ fn sequence(
     at: usize,
 ) -> BlockRead
     requires { ⌜ Ready (now text) (now table) count × (first ≤ count) × (at ≤ length (now out)) × (length (now out) ≤ 1048576) ⌝ }
-    ensures { λ r. ⌜ AgreesBlock (blockSeq (length (now (out .entry))) (within (length (now (out .entry))) levels) indent at (drop first (tableLines (now (text .entry)) (now (table .entry)) count))) (tableLines (now (text .entry)) (now (table .entry)) count) first (now (out .entry)) (now (out .exit)) at r ⌝ }
+    ensures { λ r. ⌜ ReadsLines (λ work ls. blockSeq work (within work levels) indent at ls) (now (text .entry)) (now (table .entry))
+        count first (now (out .entry)) (now (out .exit)) at r ⌝ }
 {
     if out.len() - at < 6 {
         return BlockRead::Refused(Refusal::WorkTooShort);
@@ -467,7 +487,8 @@ pub fn block(
     at: usize,
 ) -> BlockRead
     requires { ⌜ Ready (now text) (now table) count × (i ≤ count) × (at ≤ length (now out)) × (length (now out) ≤ 1048576) ⌝ }
-    ensures { λ r. ⌜ AgreesBlock (definition.block (length (now (out .entry))) levels at (drop i (tableLines (now (text .entry)) (now (table .entry)) count))) (tableLines (now (text .entry)) (now (table .entry)) count) i (now (out .entry)) (now (out .exit)) at r ⌝ }
+    ensures { λ r. ⌜ ReadsLines (λ work ls. definition.block work levels at ls) (now (text .entry)) (now (table .entry)) count i
+        (now (out .entry)) (now (out .exit)) at r ⌝ }
 {
     if i == count {
         return null(i, out, at);

@@ -7,8 +7,9 @@ use lib.ListN.{length, take, drop, getD, length-append}
 use lib.Seq.{take-at, drop-at, drop-drop, drop-cons}
 use Rattle.item.specs.Tree.{Yaml, null, bool, int, str, seq, dict}
 use Rattle.item.specs.Encode.{head, item, encode, kindOf}
-use Rattle.item.specs.Size.{head-length, item-length}
-use Rattle.item.specs.Places.{headerAt, item-at}
+use Rattle.item.proofs.Size.{head-length, item-length}
+use Rattle.item.specs.Places.{headerAt}
+use Rattle.item.proofs.HeaderPlaces.{item-at}
 use Rattle.item.specs.declared.Header.the-variants.{Item}
 use Rattle.entries.specs.Entries.{Stands, content}
 

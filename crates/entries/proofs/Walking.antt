@@ -9,7 +9,7 @@ use lib.ListN.{length, take, drop, length-append, length-take, length-drop, take
 use Rattle.refusal.specs.Base.{same, if_then_else_}
 use Rattle.item.specs.Tree.{Yaml, Items, end, _▸_, Entries, done, pair, hasKey, get, Ranged}
 use Rattle.item.specs.Encode.{item, encode, kindOf}
-use Rattle.item.specs.Size.{item-length, encode-long}
+use Rattle.item.proofs.Size.{item-length, encode-long}
 use Rattle.item.specs.Places.{headerAt}
 use Rattle.item.specs.declared.Header.the-variants.{Item}
 use Rattle.item.specs.declared.Found.{Found}

@@ -130,7 +130,8 @@ pub fn find(s: &[u8], from: usize, to: usize, key: &[u8]) -> Found
 // Whether the key that stands in `s` from `key` to `key_end` is a key of the entries that stand there from `from` to `to`.
 pub fn has_key(s: &[u8], from: usize, to: usize, key: usize, key_end: usize) -> bool
     requires { ⌜ (from ≤ to) × (to ≤ length (now s)) × (key ≤ «key_end») × («key_end» ≤ length (now s)) × (length (now s) ≤ 1048576) ⌝ }
-    ensures { λ r. ⌜ ((es : Entries) → take (to - from) (drop from (now (s .entry))) ≡ encode es → r ≡ hasKey (take («key_end» - key) (drop key (now (s .entry)))) es) ⌝ }
+    ensures { λ r. ⌜ ((es : Entries) → take (to - from) (drop from (now (s .entry))) ≡ encode es → r
+        ≡ hasKey (take («key_end» - key) (drop key (now (s .entry)))) es) ⌝ }
 {
     match search(s, from, to, &s[key..key_end]) {
         Found::At(_) => true,

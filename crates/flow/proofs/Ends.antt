@@ -12,12 +12,12 @@ use Rattle.scalar.specs.declared.Role.{Role}
 use Rattle.scalar.specs.declared.Parsed.{Parsed}
 use Rattle.scalar.specs.declared.Parsed.the-variants.{Done, Refused}
 use Rattle.scalar.specs.Read.{Got, skipSpaces}
-use Rattle.scalar.specs.Agree.{Wrote, Agrees}
+use Rattle.scalar.specs.Contract.{Wrote, Agrees}
 use Rattle.flow.specs.declared.Whole.the-variants.{Read, Refused as Stopped}
 use Rattle.flow.specs.Flow.{value, flow}
-use Rattle.flow.specs.Agree.{AgreesWhole}
+use Rattle.flow.specs.Contract.{AgreesWhole}
 use Rattle.flow.specs.Ends.{Within, finishOf}
-use Rattle.flow.specs.Turns.{next}
+use Rattle.flow.proofs.Invariants.{next}
 
 pub within-of : (role : Role) (x : Answer (Got Yaml)) (s old new : List ℕ) (at : ℕ) (p : Parsed) → Agrees role x s old new at p → Within s p
 within-of role x s old new at (Done j u key) w = w .forward

@@ -1,1 +1,7 @@
-mod Ends
+pub mod Ends
+pub mod Examples
+pub mod Progress
+pub mod Cases
+pub mod Sums
+pub mod Invariants
+pub mod Values

@@ -9,7 +9,7 @@ use Rattle.refusal.specs.Base.{Answer, good, _>>=_, _>>_, ensure, given, if_the
 use Rattle.item.specs.Tree.{Yaml, null, seq, dict, Items, end, _◂_, noItem, Entries, done, add, noEntry, hasKey}
 use Rattle.scalar.specs.declared.Role.{Role}
 use Rattle.scalar.specs.declared.Role.the-variants.{AsValue, AsKey}
-use Rattle.scalar.specs.Scalars.{text}
+use Rattle.scalar.specs.Scalars.{keyText}
 use Rattle.scalar.specs.Read.{Got, Reader, charge, stop, scalar, skipSpaces, endsColon, doubleQuoted, singleQuoted, string, plain}
 
 -- where plain text takes no byte and the sequence does not either
@@ -58,7 +58,7 @@ module _ (cap number : ℕ) where
       else if eqb b (ch ",") && not (noEntry got) then more got sum bs
       else do
         (k, sum₁, rest₁) ← inside AsKey sum (b ∷ bs)
-        key ← given (text k) 16 number 0
+        key ← given (keyText k) 16 number 0
         rest₂ ← behindColon (skipSpaces rest₁)
         (v, sum₂, rest₃) ← entryValue inside sum₁ (skipSpaces rest₂)
         fresh key got

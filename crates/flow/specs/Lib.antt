@@ -1,9 +1,3 @@
 pub mod Flow
-pub mod Agree
+pub mod Contract
 pub mod Ends
-pub mod Examples
-pub mod Sums
-pub mod Progress
-pub mod Steps
-pub mod Turns
-pub mod Values

@@ -9,11 +9,11 @@ ghost use lib.ListN.{length, drop, getD};
 ghost use Rattle.scalar.specs.declared.Role.{Role as Roles};
 ghost use Rattle.scalar.specs.declared.Role.the-variants.{AsValue};
 ghost use Rattle.scalar.specs.Read.{skipSpaces};
-ghost use Rattle.scalar.specs.Agree.{Agrees};
+ghost use Rattle.scalar.specs.Contract.{Agrees};
 ghost use Rattle.flow.specs.Flow as definition;
 ghost use Rattle.flow.specs.Flow.{entryValue};
-ghost use Rattle.flow.specs.Agree as agree;
-ghost use Rattle.flow.specs.Agree.{skipSeparators, sequenceOf, mappingOf, entryOf, AgreesEntry, AgreesWhole};
+ghost use Rattle.flow.specs.Contract as agree;
+ghost use Rattle.flow.specs.Contract.{skipSeparators, sequenceOf, mappingOf, entryOf, AgreesEntry, AgreesWhole};
 ghost use Rattle.flow.specs.Ends.{Within, finishOf};
 use item::put_header;
 use refusal::Refusal;
@@ -32,7 +32,7 @@ pub struct Cursor<'a> {
 }
 
 // What reading an entry answers: the next place of the line, the end of the key's item and of the value's.
-pub enum EntryRead {
+pub enum PairRead {
     Done {
         next: usize,
         key_end: usize,
@@ -76,7 +76,8 @@ fn separates(b: u8, got: bool) -> bool
 
 fn skip_separators(s: &[u8], from: usize, got: bool) -> usize
     requires { ⌜ from ≤ length (now s) ⌝ }
-    ensures { λ r. ⌜ (drop r (now (s .entry)) ≡ skipSeparators got (drop from (now (s .entry)))) × (from ≤ r) × (r ≤ length (now (s .entry))) × (r < length (now (s .entry)) → agree.separates got (getD (now (s .entry)) r 0) ≡ false) ⌝ }
+    ensures { λ r. ⌜ (drop r (now (s .entry)) ≡ skipSeparators got (drop from (now (s .entry)))) × (from ≤ r)
+        × (r ≤ length (now (s .entry))) × (r < length (now (s .entry)) → agree.separates got (getD (now (s .entry)) r 0) ≡ false) ⌝ }
 {
     let mut i = from;
     while i < s.len() {
@@ -105,7 +106,8 @@ fn stuck(s: &[u8], i: usize) -> bool
 // The items behind a `[`. The header's six bytes are taken, and filled in when the sequence closes.
 fn sequence(s: &[u8], start: usize, levels: usize, line: u32, out: &mut [u8], at: usize) -> Parsed
     requires { ⌜ (start ≤ length (now s)) × (length (now s) ≤ 65535) × (at + 6 ≤ length (now out)) × (length (now out) ≤ 1048576) ⌝ }
-    ensures { λ r. ⌜ ((role : Roles) → Agrees role (sequenceOf (length (now (out .entry))) line levels at (drop start (now (s .entry)))) (now (s .entry)) (now (out .entry)) (now (out .exit)) at r) ⌝ }
+    ensures { λ r. ⌜ ((role : Roles) → Agrees role (sequenceOf (length (now (out .entry))) line levels at (drop start (now (s .entry))))
+        (now (s .entry)) (now (out .entry)) (now (out .exit)) at r) ⌝ }
 {
     let mut i = start;
     let mut p = at + 6;
@@ -138,7 +140,9 @@ fn sequence(s: &[u8], start: usize, levels: usize, line: u32, out: &mut [u8], at
 // The value of an entry, which a comma or a closing brace leaves out.
 fn entry_value(s: &[u8], i: usize, levels: usize, line: u32, out: &mut [u8], at: usize) -> Parsed
     requires { ⌜ (i ≤ length (now s)) × (length (now s) ≤ 65535) × (at ≤ length (now out)) × (length (now out) ≤ 1048576) ⌝ }
-    ensures { λ r. ⌜ Agrees AsValue (entryValue (length (now (out .entry))) line (definition.value (length (now (out .entry))) line levels true) at (drop i (now (s .entry)))) (now (s .entry)) (now (out .entry)) (now (out .exit)) at r ⌝ }
+    ensures { λ r. ⌜ Agrees AsValue (entryValue (length (now (out .entry))) line
+        (definition.value (length (now (out .entry))) line levels true) at (drop i (now (s .entry)))) (now (s .entry)) (now (out .entry))
+        (now (out .exit)) at r ⌝ }
 {
     if i == s.len() {
         return value(s, i, levels, true, Role::AsValue, line, out, at);
@@ -153,30 +157,31 @@ fn entry_value(s: &[u8], i: usize, levels: usize, line: u32, out: &mut [u8], at:
 }
 
 // A key, a colon and a value.
-fn entry(s: &[u8], i: usize, levels: usize, line: u32, out: &mut [u8], at: usize) -> EntryRead
+fn entry(s: &[u8], i: usize, levels: usize, line: u32, out: &mut [u8], at: usize) -> PairRead
     requires { ⌜ (i ≤ length (now s)) × (length (now s) ≤ 65535) × (at ≤ length (now out)) × (length (now out) ≤ 1048576) ⌝ }
-    ensures { λ r. ⌜ AgreesEntry (entryOf (length (now (out .entry))) line (definition.value (length (now (out .entry))) line levels true) at (drop i (now (s .entry)))) (now (s .entry)) (now (out .entry)) (now (out .exit)) i at r ⌝ }
+    ensures { λ r. ⌜ AgreesEntry (entryOf (length (now (out .entry))) line (definition.value (length (now (out .entry))) line levels true)
+        at (drop i (now (s .entry)))) (now (s .entry)) (now (out .entry)) (now (out .exit)) i at r ⌝ }
 {
     match value(s, i, levels, true, Role::AsKey, line, out, at) {
-        Parsed::Refused(e) => EntryRead::Refused(e),
+        Parsed::Refused(e) => PairRead::Refused(e),
         Parsed::Done { next, used, key } => {
             if !key {
-                return EntryRead::Refused(Refusal::KeyNotScalar { line });
+                return PairRead::Refused(Refusal::KeyNotScalar { line });
             }
             let colon = skip_spaces(s, next);
             if colon == s.len() {
-                return EntryRead::Refused(Refusal::KeyWithoutColon { line });
+                return PairRead::Refused(Refusal::KeyWithoutColon { line });
             }
             if s[colon] != b':' {
-                return EntryRead::Refused(Refusal::KeyWithoutColon { line });
+                return PairRead::Refused(Refusal::KeyWithoutColon { line });
             }
             match entry_value(s, skip_spaces(s, colon + 1), levels, line, out, used) {
-                Parsed::Refused(e) => EntryRead::Refused(e),
+                Parsed::Refused(e) => PairRead::Refused(e),
                 Parsed::Done {
                     next: n,
                     used: u,
                     key: _,
-                } => EntryRead::Done {
+                } => PairRead::Done {
                     next: n,
                     key_end: used,
                     used: u,
@@ -189,7 +194,8 @@ fn entry(s: &[u8], i: usize, levels: usize, line: u32, out: &mut [u8], at: usize
 // The entries behind a `{`.
 fn mapping(s: &[u8], start: usize, levels: usize, line: u32, out: &mut [u8], at: usize) -> Parsed
     requires { ⌜ (start ≤ length (now s)) × (length (now s) ≤ 65535) × (at + 6 ≤ length (now out)) × (length (now out) ≤ 1048576) ⌝ }
-    ensures { λ r. ⌜ ((role : Roles) → Agrees role (mappingOf (length (now (out .entry))) line levels at (drop start (now (s .entry)))) (now (s .entry)) (now (out .entry)) (now (out .exit)) at r) ⌝ }
+    ensures { λ r. ⌜ ((role : Roles) → Agrees role (mappingOf (length (now (out .entry))) line levels at (drop start (now (s .entry))))
+        (now (s .entry)) (now (out .entry)) (now (out .exit)) at r) ⌝ }
 {
     let mut i = start;
     let mut p = at + 6;
@@ -207,7 +213,7 @@ fn mapping(s: &[u8], start: usize, levels: usize, line: u32, out: &mut [u8], at:
             };
         }
         match entry(s, j, levels, line, out, p) {
-            EntryRead::Done {
+            PairRead::Done {
                 next,
                 key_end,
                 used,
@@ -218,15 +224,18 @@ fn mapping(s: &[u8], start: usize, levels: usize, line: u32, out: &mut [u8], at:
                 i = next;
                 p = used;
             }
-            EntryRead::Refused(e) => return Parsed::Refused(e),
+            PairRead::Refused(e) => return Parsed::Refused(e),
         }
     }
 }
 
 // A collection that opens at `i`.
 fn collection(s: &[u8], i: usize, levels: usize, line: u32, out: &mut [u8], at: usize) -> Parsed
-    requires { ⌜ (i < length (now s)) × ((getD (now s) i 0 ≡ 123) ⊎ (getD (now s) i 0 ≡ 91)) × (length (now s) ≤ 65535) × (at ≤ length (now out)) × (length (now out) ≤ 1048576) ⌝ }
-    ensures { λ r. ⌜ ((inFlow : Bool) (role : Roles) → Agrees role (definition.value (length (now (out .entry))) line levels inFlow role at (drop i (now (s .entry)))) (now (s .entry)) (now (out .entry)) (now (out .exit)) at r) ⌝ }
+    requires { ⌜ (i < length (now s)) × ((getD (now s) i 0 ≡ 123) ⊎ (getD (now s) i 0 ≡ 91)) × (length (now s) ≤ 65535)
+        × (at ≤ length (now out)) × (length (now out) ≤ 1048576) ⌝ }
+    ensures { λ r. ⌜ ((inFlow : Bool) (role : Roles) → Agrees role
+        (definition.value (length (now (out .entry))) line levels inFlow role at (drop i (now (s .entry)))) (now (s .entry))
+        (now (out .entry)) (now (out .exit)) at r) ⌝ }
 {
     if levels == 0 {
         return Parsed::Refused(Refusal::TooDeep { line });
@@ -251,7 +260,8 @@ fn value(
     at: usize,
 ) -> Parsed
     requires { ⌜ (i ≤ length (now s)) × (length (now s) ≤ 65535) × (at ≤ length (now out)) × (length (now out) ≤ 1048576) ⌝ }
-    ensures { λ r. ⌜ Agrees role (definition.value (length (now (out .entry))) line levels in_flow role at (drop i (now (s .entry)))) (now (s .entry)) (now (out .entry)) (now (out .exit)) at r ⌝ }
+    ensures { λ r. ⌜ Agrees role (definition.value (length (now (out .entry))) line levels in_flow role at (drop i (now (s .entry))))
+        (now (s .entry)) (now (out .entry)) (now (out .exit)) at r ⌝ }
 {
     if i == s.len() {
         return scalar::null_at(s, i, role, out, at);
@@ -298,7 +308,9 @@ impl<'a> Cursor<'a> {
 
     pub fn skip_spaces(self) -> Cursor<'a>
         requires { ⌜ self .at ≤ length (now (self .line)) ⌝ }
-        ensures { λ r. ⌜ (r .line ≡ self .entry .line) × (drop (r .at) (now (self .entry .line)) ≡ skipSpaces (drop (self .entry .at) (now (self .entry .line)))) × (r .at ≤ length (now (self .entry .line))) × (r .levels ≡ self .entry .levels) ⌝ }
+        ensures { λ r. ⌜ (r .line ≡ self .entry .line) × (drop (r .at) (now (self .entry .line))
+            ≡ skipSpaces (drop (self .entry .at) (now (self .entry .line)))) × (r .at ≤ length (now (self .entry .line)))
+            × (r .levels ≡ self .entry .levels) ⌝ }
     {
         Cursor {
             line: self.line,
@@ -309,8 +321,10 @@ impl<'a> Cursor<'a> {
 
     // The value at the place. `number` is the line's number.
     pub fn value(self, in_flow: bool, role: Role, number: u32, out: &mut [u8], at: usize) -> Parsed
-        requires { ⌜ (self .at ≤ length (now (self .line))) × (length (now (self .line)) ≤ 65535) × (at ≤ length (now out)) × (length (now out) ≤ 1048576) ⌝ }
-        ensures { λ r. ⌜ Agrees role (definition.value (length (now (out .entry))) number (self .entry .levels) in_flow role at (drop (self .entry .at) (now (self .entry .line)))) (now (self .entry .line)) (now (out .entry)) (now (out .exit)) at r ⌝ }
+        requires { ⌜ (self .at ≤ length (now (self .line))) × (length (now (self .line)) ≤ 65535) × (at ≤ length (now out))
+            × (length (now out) ≤ 1048576) ⌝ }
+        ensures { λ r. ⌜ Agrees role (definition.value (length (now (out .entry))) number (self .entry .levels) in_flow role at
+            (drop (self .entry .at) (now (self .entry .line)))) (now (self .entry .line)) (now (out .entry)) (now (out .exit)) at r ⌝ }
     {
         value(
             self.line,
@@ -328,7 +342,8 @@ impl<'a> Cursor<'a> {
 // A part of a line that is one value.
 pub fn flow(s: &[u8], levels: usize, role: Role, line: u32, out: &mut [u8], at: usize) -> Whole
     requires { ⌜ (length (now s) ≤ 65535) × (at ≤ length (now out)) × (length (now out) ≤ 1048576) ⌝ }
-    ensures { λ r. ⌜ AgreesWhole role (definition.flow (length (now (out .entry))) line levels role at (now (s .entry))) (now (out .entry)) (now (out .exit)) at r ⌝ }
+    ensures { λ r. ⌜ AgreesWhole role (definition.flow (length (now (out .entry))) line levels role at (now (s .entry)))
+        (now (out .entry)) (now (out .exit)) at r ⌝ }
 {
     let p = Cursor::start(s, levels)
         .skip_spaces()

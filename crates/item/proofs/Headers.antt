@@ -12,7 +12,8 @@ use borrow.Author.Tests.{ltb-true, ltb-false}
 use denote.Enum.Declared.{tagOf}
 use Rattle.item.specs.Encode.{number}
 use Rattle.item.specs.Decode.{header}
-use Rattle.item.specs.Places.{headerAt, found, at-cut, at-past, at-item, header-places}
+use Rattle.item.specs.Places.{headerAt}
+use Rattle.item.proofs.HeaderPlaces.{found, at-cut, at-past, at-item, header-places}
 use Rattle.item.specs.declared.Header.{Header}
 use Rattle.item.specs.declared.Header.the-variants.{Item, Cut, PastEnd}
 use Rattle.item.proofs.Header as H

@@ -1,10 +1,15 @@
 -- Section 5 of document 01, kinds 0 to 5: the items that trees are written as. Assumes nothing.
-use Prim.Native.Nat.{ℕ, zero, suc, _+_, _-_, _*_, _/_, _%_}
+use Prim.Native.Nat.{ℕ, zero, suc, _+_, _-_, _*_, _/_, _%_, _<_}
 use mathlib.Core.List.{List, [], _∷_, _++_}
 use mathlib.Core.Bool.{Bool, true, false}
 use lib.ListN.{length}
 use lib.IntN.{ℤ, pos, negsuc, negℤ}
 use Rattle.item.specs.Tree.{Shape, Node, Yaml, null, bool, int, str, seq, dict, end, _▸_, done, pair}
+
+-- every element is a byte
+abbrev pub Bytes : List ℕ → Type 0
+Bytes [] = Unit {0}
+Bytes (b ∷ bs) = (b < 256) × Bytes bs
 
 -- so many bytes of a number, the lowest first
 unfoldable pub le : ℕ → ℕ → List ℕ

@@ -1,9 +1,4 @@
 pub mod Tree
 pub mod Encode
 pub mod Decode
-pub mod Size
-pub mod Back
-pub mod Exact
 pub mod Places
-pub mod Runs
-pub mod Same

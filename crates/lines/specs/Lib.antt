@@ -3,8 +3,3 @@ pub mod Dash
 pub mod Table
 pub mod Ready
 pub mod Places
-pub mod Laws
-pub mod TableLaws
-pub mod StepLaws
-pub mod Rows
-pub mod Ends

@@ -84,7 +84,8 @@ fn newline_in_eight(text: &[u8], i: usize) -> bool
 // A place up to which the line at `at` has no newline.
 fn skip_eights(text: &[u8], at: usize) -> usize
     requires { ⌜ at ≤ length (now text) ⌝ }
-    ensures { λ r. ⌜ (at + untilNewline (drop at (now (text .entry))) ≡ r + untilNewline (drop r (now (text .entry)))) × (r ≤ length (now (text .entry))) ⌝ }
+    ensures { λ r. ⌜ (at + untilNewline (drop at (now (text .entry))) ≡ r + untilNewline (drop r (now (text .entry))))
+        × (r ≤ length (now (text .entry))) ⌝ }
 {
     let mut i = at;
     while text.len() - i >= 8 {
@@ -285,7 +286,8 @@ fn put_entry(table: &mut [u16], at: usize, indent: usize, from: usize, to: usize
 // The blank lines that wait before line `number`.
 fn put_blanks(table: &mut [u16], at: usize, waiting: usize, indent: usize, number: usize)
     requires { ⌜ (length (now table) ≡ 8192) × (at + waiting ≤ 2048) × (waiting ≤ number) × (indent < 65536) × (number < 65536) ⌝ }
-    ensures { λ _. ⌜ ((text : List ℕ) (es : List Event) → Took text (now (table .entry)) (now (table .exit)) at (at + waiting) (blanksBefore waiting number indent ++ es) es) ⌝ }
+    ensures { λ _. ⌜ ((text : List ℕ) (es : List Event)
+        → Took text (now (table .entry)) (now (table .exit)) at (at + waiting) (blanksBefore waiting number indent ++ es) es) ⌝ }
 {
     let mut left = waiting;
     while left > 0 {
@@ -297,7 +299,8 @@ fn put_blanks(table: &mut [u16], at: usize, waiting: usize, indent: usize, numbe
 // A line that is read normally.
 fn normal_line(text: &[u8], raw: Raw, table: &mut [u16], count: usize) -> Step
     requires { ⌜ (length (now table) ≡ 8192) × IsRaw (now text) raw × (count ≤ 2048) ⌝ }
-    ensures { λ r. ⌜ Takes (now (text .entry)) (now (table .entry)) (now (table .exit)) count (raw .number) (λ raws. normal raw (now (text .entry)) raws) r ⌝ }
+    ensures { λ r. ⌜ Takes (now (text .entry)) (now (table .entry)) (now (table .exit)) count (raw .number)
+        (λ raws. normal raw (now (text .entry)) raws) r ⌝ }
 {
     let start = raw.start;
     let line = raw.number as u32;
@@ -338,7 +341,8 @@ fn body_line(
     count: usize,
 ) -> Step
     requires { ⌜ (length (now table) ≡ 8192) × IsRaw (now text) raw × (count ≤ 2048) × (waiting < raw .number) ⌝ }
-    ensures { λ r. ⌜ Takes (now (text .entry)) (now (table .entry)) (now (table .exit)) count (raw .number) (λ raws. body raw under waiting (now (text .entry)) raws) r ⌝ }
+    ensures { λ r. ⌜ Takes (now (text .entry)) (now (table .entry)) (now (table .exit)) count (raw .number)
+        (λ raws. body raw under waiting (now (text .entry)) raws) r ⌝ }
 {
     let start = raw.start;
     let number = raw.number;
@@ -379,7 +383,8 @@ fn read_line(
     count: usize,
 ) -> Step
     requires { ⌜ (length (now table) ≡ 8192) × IsRaw (now text) raw × (count ≤ 2048) × (waiting < raw .number) ⌝ }
-    ensures { λ r. ⌜ Takes (now (text .entry)) (now (table .entry)) (now (table .exit)) count (raw .number) (λ raws. scan literal waiting (raw .number) (rawText (now (text .entry)) raw ∷ raws)) r ⌝ }
+    ensures { λ r. ⌜ Takes (now (text .entry)) (now (table .entry)) (now (table .exit)) count (raw .number)
+        (λ raws. scan literal waiting (raw .number) (rawText (now (text .entry)) raw ∷ raws)) r ⌝ }
 {
     let Literal::Under(under) = literal else {
         return normal_line(text, raw, table, count);

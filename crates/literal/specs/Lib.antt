@@ -1,6 +1,3 @@
 pub mod Literal
-pub mod Agree
+pub mod Contract
 pub mod Walk
-pub mod Laws
-pub mod Ends
-pub mod Whole

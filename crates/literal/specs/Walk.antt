@@ -23,11 +23,6 @@ module _ (text table : List ℕ) (count indent : ℕ) where
 abbrev pub Ordered : List ℕ → ℕ → Type 0
 Ordered table count = (i : ℕ) → i < count → getD table (4 * i + 1) 0 ≤ getD table (4 * i + 2) 0
 
--- what is known of a literal from `first` on before the line `i`, whatever the text is
-abbrev pub Counted : List ℕ → ℕ → ℕ → ℕ → ℕ → ℕ → Type 0
-Counted table count indent first i len = (text : List ℕ) → Placed text table count
-    → (length (bodyFrom text table count indent first) ≡ len + length (bodyFrom text table count indent i)) × (restFrom text table count indent first ≡ restFrom text table count indent i)
-
 -- the lines of a literal from `first` up to `next`, whatever the text is
 pub record Extent (table : List ℕ) (count first indent : ℕ) (r : Body) : Type 0 where
   pub on : first ≤ r .next

@@ -1,17 +1,16 @@
 // Literals, written into the work bytes (document 01, section 3). Lines are read from a table of entries, of which the first
 // `count` count.
 ghost use mathlib.Core.Path.{_≡_};
-ghost use mathlib.Core.List.{List, [], _∷_, _++_};
+ghost use mathlib.Core.List.{[], _∷_, _++_};
 ghost use Prim.Native.Nat.{_+_, _*_, _-_, _≤_, _<_};
-ghost use lib.ListN.{length, take, drop, replicate, getD};
+ghost use lib.ListN.{length, take, replicate, getD};
 ghost use lib.Seq.{sets};
 ghost use Rattle.refusal.specs.Base.{if_then_else_, ch};
 ghost use Rattle.item.specs.Tree.{str};
-ghost use Rattle.lines.specs.Lines.{Line};
-ghost use Rattle.lines.specs.Table.{tableLines, Placed};
+ghost use Rattle.lines.specs.Table.{Placed};
 ghost use Rattle.lines.specs.Ready.{Ready};
 ghost use Rattle.literal.specs.Literal as definition;
-ghost use Rattle.literal.specs.Agree.{AgreesBlock};
+ghost use Rattle.literal.specs.Contract.{ReadsLines, ReadsPart};
 ghost use Rattle.literal.specs.Walk.{bodyFrom, Ordered, Extent, whole};
 use item::copy;
 use item::put_header;
@@ -62,7 +61,8 @@ fn put_spaces(out: &mut [u8], at: usize, n: usize)
 // A line of a literal, without its newline if that would stand at `to`.
 fn put_line(line: &[u8], spaces: usize, out: &mut [u8], at: usize, to: usize)
     requires { ⌜ (at + spaces + length (now line) ≤ to) × (to ≤ length (now out)) ⌝ }
-    ensures { λ _. ⌜ now (out .exit) ≡ sets (now (out .entry)) at (take (to - at) (replicate spaces (ch " ") ++ now (line .entry) ++ (ch "\n" ∷ []))) ⌝ }
+    ensures { λ _. ⌜ now (out .exit) ≡ sets (now (out .entry)) at
+        (take (to - at) (replicate spaces (ch " ") ++ now (line .entry) ++ (ch "\n" ∷ []))) ⌝ }
 {
     put_spaces(out, at, spaces);
     copy(out, at + spaces, line);
@@ -83,8 +83,11 @@ fn put_lines(
     at: usize,
     to: usize,
 )
-    requires { ⌜ (length (now table) ≡ 8192) × (count ≤ 2048) × (first ≤ count) × Placed (now text) (now table) count × (to ≤ length (now out)) × (length (now out) ≤ 1048576) × (to ≤ at + length (bodyFrom (now text) (now table) count indent first)) × (at + length (bodyFrom (now text) (now table) count indent first) ≤ to + 1) ⌝ }
-    ensures { λ _. ⌜ now (out .exit) ≡ sets (now (out .entry)) at (take (to - at) (bodyFrom (now (text .entry)) (now (table .entry)) count indent first)) ⌝ }
+    requires { ⌜ (length (now table) ≡ 8192) × (count ≤ 2048) × (first ≤ count) × Placed (now text) (now table) count
+        × (to ≤ length (now out)) × (length (now out) ≤ 1048576) × (to ≤ at + length (bodyFrom (now text) (now table) count indent first))
+        × (at + length (bodyFrom (now text) (now table) count indent first) ≤ to + 1) ⌝ }
+    ensures { λ _. ⌜ now (out .exit) ≡ sets (now (out .entry)) at
+        (take (to - at) (bodyFrom (now (text .entry)) (now (table .entry)) count indent first)) ⌝ }
 {
     let mut i = first;
     let mut p = at;
@@ -123,8 +126,10 @@ fn put_literal(
     out: &mut [u8],
     at: usize,
 ) -> BlockRead
-    requires { ⌜ Ready (now text) (now table) count × (i < count) × (indent ≡ getD (now table) (4 * i) 0) × (at ≤ length (now out)) × (length (now out) ≤ 1048576) ⌝ }
-    ensures { λ r. ⌜ AgreesBlock (whole (length (now (out .entry))) strip at (definition.literalLines indent (drop i (tableLines (now (text .entry)) (now (table .entry)) count)))) (tableLines (now (text .entry)) (now (table .entry)) count) i (now (out .entry)) (now (out .exit)) at r ⌝ }
+    requires { ⌜ Ready (now text) (now table) count × (i < count) × (indent ≡ getD (now table) (4 * i) 0) × (at ≤ length (now out))
+        × (length (now out) ≤ 1048576) ⌝ }
+    ensures { λ r. ⌜ ReadsLines (λ work ls. whole work strip at (definition.literalLines indent ls)) (now (text .entry))
+        (now (table .entry)) count i (now (out .entry)) (now (out .exit)) at r ⌝ }
 {
     let body = extent(table, count, i, indent);
     let len = kept_len(body.len, strip);
@@ -142,7 +147,7 @@ fn put_literal(
 // A literal of no lines, where `i` is the first line that is left.
 fn put_empty(out: &mut [u8], at: usize, i: usize) -> BlockRead
     requires { ⌜ (at ≤ length (now out)) × (length (now out) ≤ 1048576) ⌝ }
-    ensures { λ r. ⌜ ((ls : List Line) → i ≤ length ls → AgreesBlock (definition.leaf (length (now (out .entry))) at (str []) (drop i ls)) ls i (now (out .entry)) (now (out .exit)) at r) ⌝ }
+    ensures { λ r. ⌜ ReadsPart (λ work ls. definition.leaf work at (str []) ls) i (now (out .entry)) (now (out .exit)) at r ⌝ }
 {
     if out.len() - at < 6 {
         return BlockRead::Refused(Refusal::WorkTooShort);
@@ -166,7 +171,8 @@ pub fn literal(
     at: usize,
 ) -> BlockRead
     requires { ⌜ Ready (now text) (now table) count × (i ≤ count) × (at ≤ length (now out)) × (length (now out) ≤ 1048576) ⌝ }
-    ensures { λ r. ⌜ AgreesBlock (definition.literal (length (now (out .entry))) strip under at (drop i (tableLines (now (text .entry)) (now (table .entry)) count))) (tableLines (now (text .entry)) (now (table .entry)) count) i (now (out .entry)) (now (out .exit)) at r ⌝ }
+    ensures { λ r. ⌜ ReadsLines (λ work ls. definition.literal work strip under at ls) (now (text .entry)) (now (table .entry)) count i
+        (now (out .entry)) (now (out .exit)) at r ⌝ }
 {
     if i == count {
         return put_empty(out, at, i);

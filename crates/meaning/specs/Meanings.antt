@@ -5,7 +5,7 @@ use mathlib.Core.Bool.{Bool, false, not}
 use mathlib.Core.Option.{Option, none, some}
 use Rattle.refusal.specs.Base.{Answer, good, refused, _>>=_, _>>_, ensure, given, maybe, if_then_else_, bytes, same, oneOf}
 use Rattle.item.specs.Tree.{Yaml, null, bool, int, str, seq, dict, Items, end, _▸_, Entries, done, pair, get}
-use Rattle.scalar.specs.Scalars.{text}
+use Rattle.scalar.specs.Scalars.{keyText}
 use Rattle.step_lines.specs.StepLines.{headLine, tailLines}
 use Rattle.meaning.specs.Meaning.{Defaults, Step, Meaning, stepFields, builtInSteps}
 
@@ -38,7 +38,7 @@ knownKeys (pair k v es) = if oneOf k topKeys then knownKeys es else refuse 22
 
 -- a key's scalar, rendered as key text; none for a key that is absent, null or a collection
 unfoldable pub scalarAt : List ℕ → Entries → Option (List ℕ)
-scalarAt k es = maybe (get k es) none text
+scalarAt k es = maybe (get k es) none keyText
 
 -- what is no scalar becomes empty
 unfoldable pub orEmpty : Option (List ℕ) → List ℕ
@@ -66,15 +66,15 @@ consText (some t) ts = t ∷ ts
 
 unfoldable pub textsOf : Items → List (List ℕ)
 textsOf end = []
-textsOf (y ▸ ys) = consText (text y) (textsOf ys)
+textsOf (y ▸ ys) = consText (keyText y) (textsOf ys)
 
 -- ---- defaults: 28, then 29 and 30 in entry order
 
 unfoldable pub scalarDefault : Yaml → Answer (Option (List ℕ))
 scalarDefault null = good none
-scalarDefault (bool b) = good (text (bool b))
-scalarDefault (int z) = good (text (int z))
-scalarDefault (str s) = good (text (str s))
+scalarDefault (bool b) = good (keyText (bool b))
+scalarDefault (int z) = good (keyText (int z))
+scalarDefault (str s) = good (keyText (str s))
 scalarDefault (seq ys) = refuse 30
 scalarDefault (dict es) = refuse 30
 

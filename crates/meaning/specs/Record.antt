@@ -21,13 +21,13 @@ unfoldable pub expected : Option Entries → Yaml
 expected none = null
 expected (some es) = dict es
 
-unfoldable pub text : List ℕ → List ℕ
-text s = encode (str s)
+unfoldable pub textItem : List ℕ → List ℕ
+textItem s = encode (str s)
 
 -- 19 step: name, id, key, value, timeout (0 or 3), continue (1), expect (0 or 5)
 unfoldable pub stepParts : Step → List (List ℕ)
 stepParts s =
-    text (s .name) ∷ text (s .id) ∷ text (s .key) ∷ encode (s .value) ∷ encode (optional (s .timeout)) ∷ encode (bool (s .continue)) ∷ encode (expected (s .expect)) ∷ []
+    textItem (s .name) ∷ textItem (s .id) ∷ textItem (s .key) ∷ encode (s .value) ∷ encode (optional (s .timeout)) ∷ encode (bool (s .continue)) ∷ encode (expected (s .expect)) ∷ []
 
 unfoldable pub stepItem : Step → List ℕ
 stepItem s = item 19 (joined (stepParts s))
@@ -41,7 +41,7 @@ defaultsItem d = item 17 (joined (defaultsParts d))
 
 -- 4 of 3
 unfoldable pub tagsItem : List (List ℕ) → List ℕ
-tagsItem ts = item 4 (joined (map text ts))
+tagsItem ts = item 4 (joined (map textItem ts))
 
 -- 18 steps
 unfoldable pub stepsItem : List Step → List ℕ
@@ -50,11 +50,11 @@ stepsItem ss = item 18 (joined (map stepItem ss))
 -- 16 scenario: name, description, tags (4 of 3), image, setup, defaults, fail_on (4), steps
 unfoldable pub fields : Meaning → List (List ℕ)
 fields m =
-    text (m .name) ∷ text (m .description) ∷ tagsItem (m .tags) ∷ text (m .image) ∷ encode (m .setup) ∷ defaultsItem (m .defaults) ∷ encode (seq (m .failOn)) ∷ stepsItem (m .steps) ∷ []
+    textItem (m .name) ∷ textItem (m .description) ∷ tagsItem (m .tags) ∷ textItem (m .image) ∷ encode (m .setup) ∷ defaultsItem (m .defaults) ∷ encode (seq (m .failOn)) ∷ stepsItem (m .steps) ∷ []
 
 unfoldable pub recordOf : Meaning → List ℕ
 recordOf m = item 16 (joined (fields m))
 
 unfoldable pub Record-open : Unit {0}
-unfolding joined optional expected text stepParts stepItem defaultsParts defaultsItem tagsItem stepsItem fields recordOf
+unfolding joined optional expected textItem stepParts stepItem defaultsParts defaultsItem tagsItem stepsItem fields recordOf
 Record-open = tt

@@ -6,7 +6,7 @@ use native.Mathlib.Omega.{arith}
 use mathlib.Core.List.{List, _∷_}
 use lib.ListN.{length, take, drop, getD}
 use Rattle.item.specs.Encode.{number}
-use Rattle.item.specs.Places.{take-next}
+use Rattle.item.proofs.HeaderPlaces.{take-next}
 
 next-number : (s : List ℕ) (i k : ℕ) → i < length s → number (take (suc k) (drop i s)) ≡ getD s i 0 + 256 * number (take k (drop (suc i) s))
 unfolding number

@@ -9,13 +9,13 @@ use lib.Seq.{sets}
 use Rattle.refusal.specs.Base.{maybe}
 use Rattle.item.specs.Tree.{Yaml, null}
 use Rattle.item.specs.Encode.{head, item, encode}
-use Rattle.item.specs.Size.{head-length}
-use Rattle.item.specs.Runs.{sets-append, sets-before}
+use Rattle.item.proofs.Size.{head-length}
+use Rattle.item.proofs.Runs.{sets-append, sets-before}
 use Rattle.item.specs.declared.Found.{Found}
 use Rattle.scalar.specs.Scalars as scalar
 use Rattle.meaning.specs.Meanings.{orEmpty}
-use Rattle.meaning.specs.Record.{optional, text}
-use Rattle.nodes.specs.Agree.{Stored, Reads}
+use Rattle.meaning.specs.Record.{optional, textItem}
+use Rattle.nodes.specs.Contract.{Stored, Reads}
 
 pub stored-then : {old mid new : List ℕ} {at p q : ℕ} (a b : List ℕ) → Stored old mid at a p → Stored mid new p b q → Stored old new at (a ++ b) q
 stored-then {old} {mid} {new} {at} {p} {q} a b x y =
@@ -57,13 +57,13 @@ optional-is none = refl
 optional-is (some t) = refl
 
 module _ {s old new : List ℕ} {at end : ℕ} {place : Found} where
-  pub text-stored : {t : List ℕ} (r : Reads s (λ o. orEmpty (maybe o none scalar.text)) place t)
-      → Stored old new at (item 3 (maybe (maybe (r .value) none scalar.text) [] (λ u. u))) end → Stored old new at (text t) end
-  unfolding orEmpty text encode
-  text-stored r w = stored-is (ap text (sym (r .is))) w
+  pub text-stored : {t : List ℕ} (r : Reads s (λ o. orEmpty (maybe o none scalar.keyText)) place t)
+      → Stored old new at (item 3 (maybe (maybe (r .value) none scalar.keyText) [] (λ u. u))) end → Stored old new at (textItem t) end
+  unfolding orEmpty textItem encode
+  text-stored r w = stored-is (ap textItem (sym (r .is))) w
 
-  pub optional-stored : {t : Option (List ℕ)} (r : Reads s (λ o. maybe o none scalar.text) place t)
-      → Stored old new at (maybe (maybe (r .value) none scalar.text) (encode null) (λ u. item 3 u)) end → Stored old new at (encode (optional t)) end
+  pub optional-stored : {t : Option (List ℕ)} (r : Reads s (λ o. maybe o none scalar.keyText) place t)
+      → Stored old new at (maybe (maybe (r .value) none scalar.keyText) (encode null) (λ u. item 3 u)) end → Stored old new at (encode (optional t)) end
   optional-stored r w = stored-is (optional-is _ ∙ ap (λ (o : Option (List ℕ)). encode (optional o)) (sym (r .is))) w
 
   pub item-stored : {v : Yaml} (r : Reads s (λ o. maybe o null (λ v. v)) place v)

@@ -14,14 +14,14 @@ use Rattle.refusal.specs.Base.{maybe, if_then_else_, bytes}
 use Rattle.item.specs.Tree.{Yaml, null, bool, int, str, seq, dict, Ranged}
 use Rattle.item.specs.Encode.{number, le, twos, flag, item, encode, signed, kindOf}
 use Rattle.item.specs.Decode.{untwos}
-use Rattle.item.specs.Back.{number-le, twos-back, twos-small}
-use Rattle.item.specs.Size.{le-length, item-length}
-use Rattle.scalar.specs.Scalars.{text, boolText, intText}
-use Rattle.scalar.specs.NumberLaws.{decimal-twenty}
+use Rattle.item.proofs.RoundTrip.{number-le, twos-back, twos-small}
+use Rattle.item.proofs.Size.{le-length, item-length}
+use Rattle.scalar.specs.Scalars.{keyText, boolText, intText}
+use Rattle.scalar.proofs.NumberLaws.{decimal-twenty}
 use Rattle.nodes.specs.declared.Rendered.{Rendered}
 use Rattle.nodes.specs.declared.Rendered.the-variants.{Text, NoScalar}
 use Rattle.entries.specs.Entries.{Stands, FoundAt}
-use Rattle.nodes.specs.Agree.{Stored, Near, RendersAs, RendersNear}
+use Rattle.nodes.specs.Contract.{Stored, Near, RendersAs, RendersNear}
 use Rattle.entries.proofs.Standing.{stands-part, item-content}
 
 -- ---- lengths
@@ -71,8 +71,8 @@ flag-at {s} {p} b st =
     told false = refl
 
 module _ {s old new : List ℕ} {p at end : ℕ} where
-  bool-here : (y : Yaml) → kindOf y ≡ 1 → Stands s p (encode y) → Stored old new at (item 3 (boolText (ltb 0 (getD s (p + 6) 0)))) end → RendersAs (text y) old new at (Text end)
-  unfolding kindOf text encode
+  bool-here : (y : Yaml) → kindOf y ≡ 1 → Stands s p (encode y) → Stored old new at (item 3 (boolText (ltb 0 (getD s (p + 6) 0)))) end → RendersAs (keyText y) old new at (Text end)
+  unfolding kindOf keyText encode
   bool-here null k st w = absurd (omega arith)
   bool-here (bool b) k st w = subst (λ (x : Bool). Stored old new at (item 3 (boolText x)) end) (flag-at b st) w
   bool-here (int z) k st w = absurd (omega arith)
@@ -80,11 +80,11 @@ module _ {s old new : List ℕ} {p at end : ℕ} where
   bool-here (seq ys) k st w = absurd (omega arith)
   bool-here (dict es) k st w = absurd (omega arith)
 
-  pub bool-text : (from : ℕ) → from ≡ p + 6 → (y : Yaml) → kindOf y ≡ 1 → Stands s p (encode y) → Stored old new at (item 3 (boolText (ltb 0 (getD s from 0)))) end → RendersAs (text y) old new at (Text end)
+  pub bool-text : (from : ℕ) → from ≡ p + 6 → (y : Yaml) → kindOf y ≡ 1 → Stands s p (encode y) → Stored old new at (item 3 (boolText (ltb 0 (getD s from 0)))) end → RendersAs (keyText y) old new at (Text end)
   bool-text from e y k st w = bool-here y k st (subst (λ (n : ℕ). Stored old new at (item 3 (boolText (ltb 0 (getD s n 0)))) end) e w)
 
-  int-here : (z : ℤ) (y : Yaml) → kindOf y ≡ 2 → Ranged y → Stands s p (encode y) → z ≡ untwos (number (take 8 (drop (p + 6) s))) → Stored old new at (item 3 (intText z)) end → RendersAs (text y) old new at (Text end)
-  unfolding kindOf text encode
+  int-here : (z : ℤ) (y : Yaml) → kindOf y ≡ 2 → Ranged y → Stands s p (encode y) → z ≡ untwos (number (take 8 (drop (p + 6) s))) → Stored old new at (item 3 (intText z)) end → RendersAs (keyText y) old new at (Text end)
+  unfolding kindOf keyText encode
   int-here z null k g st e w = absurd (omega arith)
   int-here z (bool b) k g st e w = absurd (omega arith)
   int-here z (int x) k g st e w =
@@ -95,11 +95,11 @@ module _ {s old new : List ℕ} {p at end : ℕ} where
   int-here z (seq ys) k g st e w = absurd (omega arith)
   int-here z (dict es) k g st e w = absurd (omega arith)
 
-  pub int-text : (from : ℕ) → from ≡ p + 6 → (z : ℤ) (y : Yaml) → kindOf y ≡ 2 → Ranged y → Stands s p (encode y) → z ≡ untwos (number (take 8 (drop from s))) → Stored old new at (item 3 (intText z)) end → RendersAs (text y) old new at (Text end)
+  pub int-text : (from : ℕ) → from ≡ p + 6 → (z : ℤ) (y : Yaml) → kindOf y ≡ 2 → Ranged y → Stands s p (encode y) → z ≡ untwos (number (take 8 (drop from s))) → Stored old new at (item 3 (intText z)) end → RendersAs (keyText y) old new at (Text end)
   int-text from e z y k g st q w = int-here z y k g st (q ∙ ap (λ (n : ℕ). untwos (number (take 8 (drop n s)))) e) w
 
-  pub str-text : (to : ℕ) (y : Yaml) → kindOf y ≡ 3 → to ≡ p + length (encode y) → Stands s p (encode y) → Stored old new at (take (to - p) (drop p s)) end → RendersAs (text y) old new at (Text end)
-  unfolding kindOf text encode
+  pub str-text : (to : ℕ) (y : Yaml) → kindOf y ≡ 3 → to ≡ p + length (encode y) → Stands s p (encode y) → Stored old new at (take (to - p) (drop p s)) end → RendersAs (keyText y) old new at (Text end)
+  unfolding kindOf keyText encode
   str-text to null k e st w = absurd (omega arith)
   str-text to (bool b) k e st w = absurd (omega arith)
   str-text to (int z) k e st w = absurd (omega arith)
@@ -109,8 +109,8 @@ module _ {s old new : List ℕ} {p at end : ℕ} where
   str-text to (seq ys) k e st w = absurd (omega arith)
   str-text to (dict es) k e st w = absurd (omega arith)
 
-pub no-text : (out : List ℕ) (at : ℕ) (y : Yaml) → (kindOf y ≡ 1 → ⊥) → (kindOf y ≡ 2 → ⊥) → (kindOf y ≡ 3 → ⊥) → RendersAs (text y) out out at NoScalar
-unfolding kindOf text
+pub no-text : (out : List ℕ) (at : ℕ) (y : Yaml) → (kindOf y ≡ 1 → ⊥) → (kindOf y ≡ 2 → ⊥) → (kindOf y ≡ 3 → ⊥) → RendersAs (keyText y) out out at NoScalar
+unfolding kindOf keyText
 no-text out at null a b c = refl
 no-text out at (bool x) a b c = absurd (a refl)
 no-text out at (int x) a b c = absurd (b refl)
@@ -155,14 +155,14 @@ null-short = omega (arith, item-length 0 [])
 pub empty-short : length (item 3 []) ≤ 2097152
 empty-short = omega (arith, item-length 3 [])
 
-text-is : {s : List ℕ} (o : Option Yaml) (p : ℕ) (f : FoundAt s o p) → maybe o none text ≡ text (f .value)
+text-is : {s : List ℕ} (o : Option Yaml) (p : ℕ) (f : FoundAt s o p) → maybe o none keyText ≡ keyText (f .value)
 unfolding maybe
 text-is o p f = rw (f .is)
 
-found-none : {s : List ℕ} (old mid : List ℕ) (at : ℕ) (o : Option Yaml) (p : ℕ) (f : FoundAt s o p) → RendersAs (text (f .value)) old mid at NoScalar → maybe o none text ≡ none
-found-none old mid at o p f r = text-is o p f ∙ no-scalar old mid at (text (f .value)) r
+found-none : {s : List ℕ} (old mid : List ℕ) (at : ℕ) (o : Option Yaml) (p : ℕ) (f : FoundAt s o p) → RendersAs (keyText (f .value)) old mid at NoScalar → maybe o none keyText ≡ none
+found-none old mid at o p f r = text-is o p f ∙ no-scalar old mid at (keyText (f .value)) r
 
-pub nothing-none : (o : Option Yaml) → o ≡ none → maybe o none text ≡ none
+pub nothing-none : (o : Option Yaml) → o ≡ none → maybe o none keyText ≡ none
 unfolding maybe
 nothing-none o e = rw e
 
@@ -184,11 +184,11 @@ module _ {old new : List ℕ} {at end : ℕ} where
   pub unwritten : {mid b : List ℕ} (r : Rendered) → r ≡ NoScalar → RendersNear old mid at r → Stored mid new at b end → Stored old new at b end
   unwritten {mid} {b} r e n w = subst (λ (l : List ℕ). Stored l new at b end) (subst (λ (x : Rendered). RendersNear old mid at x) e n) w
 
-  pub found-text : {s : List ℕ} (o : Option Yaml) (p : ℕ) (f : FoundAt s o p) (r : Rendered) → r ≡ Text end → RendersAs (text (f .value)) old new at r → Stored old new at (item 3 (maybe (maybe o none text) [] (λ u. u))) end
-  found-text o p f r e w = rw (text-is o p f) (text-of (text (f .value)) (subst (λ (x : Rendered). RendersAs (text (f .value)) old new at x) e w))
+  pub found-text : {s : List ℕ} (o : Option Yaml) (p : ℕ) (f : FoundAt s o p) (r : Rendered) → r ≡ Text end → RendersAs (keyText (f .value)) old new at r → Stored old new at (item 3 (maybe (maybe o none keyText) [] (λ u. u))) end
+  found-text o p f r e w = rw (text-is o p f) (text-of (keyText (f .value)) (subst (λ (x : Rendered). RendersAs (keyText (f .value)) old new at x) e w))
 
-  pub found-optional : {s : List ℕ} (o : Option Yaml) (p : ℕ) (f : FoundAt s o p) (r : Rendered) → r ≡ Text end → RendersAs (text (f .value)) old new at r → Stored old new at (maybe (maybe o none text) (encode null) (λ u. item 3 u)) end
-  found-optional o p f r e w = rw (text-is o p f) (optional-of (text (f .value)) (subst (λ (x : Rendered). RendersAs (text (f .value)) old new at x) e w))
+  pub found-optional : {s : List ℕ} (o : Option Yaml) (p : ℕ) (f : FoundAt s o p) (r : Rendered) → r ≡ Text end → RendersAs (keyText (f .value)) old new at r → Stored old new at (maybe (maybe o none keyText) (encode null) (λ u. item 3 u)) end
+  found-optional o p f r e w = rw (text-is o p f) (optional-of (keyText (f .value)) (subst (λ (x : Rendered). RendersAs (keyText (f .value)) old new at x) e w))
 
   pub no-text-stored : (t : Option (List ℕ)) → t ≡ none → Stored old new at (item 3 []) end → Stored old new at (item 3 (maybe t [] (λ u. u))) end
   unfolding maybe
@@ -208,10 +208,10 @@ module _ {old new : List ℕ} {at end : ℕ} where
       let n : to - p ≡ length (encode (f .value)) = omega arith in
       rw (f .is) (subst (λ (l : List ℕ). Stored old new at l end) (ap (λ (m : ℕ). take m (drop p s)) n ∙ stands-part (f .stands) (length (encode (f .value))) refl) w)
 
-  pub found-no-text : {s mid : List ℕ} (o : Option Yaml) (p : ℕ) (f : FoundAt s o p) (r : Rendered) → r ≡ NoScalar → RendersNear old mid at r → RendersAs (text (f .value)) old mid at r → Stored mid new at (item 3 []) end → Stored old new at (item 3 (maybe (maybe o none text) [] (λ u. u))) end
+  pub found-no-text : {s mid : List ℕ} (o : Option Yaml) (p : ℕ) (f : FoundAt s o p) (r : Rendered) → r ≡ NoScalar → RendersNear old mid at r → RendersAs (keyText (f .value)) old mid at r → Stored mid new at (item 3 []) end → Stored old new at (item 3 (maybe (maybe o none keyText) [] (λ u. u))) end
   found-no-text {mid = mid} o p f r e n a w =
-      no-text-stored (maybe o none text) (found-none old mid at o p f (subst (λ (x : Rendered). RendersAs (text (f .value)) old mid at x) e a)) (unwritten r e n w)
+      no-text-stored (maybe o none keyText) (found-none old mid at o p f (subst (λ (x : Rendered). RendersAs (keyText (f .value)) old mid at x) e a)) (unwritten r e n w)
 
-  pub found-no-optional : {s mid : List ℕ} (o : Option Yaml) (p : ℕ) (f : FoundAt s o p) (r : Rendered) → r ≡ NoScalar → RendersNear old mid at r → RendersAs (text (f .value)) old mid at r → Stored mid new at (encode null) end → Stored old new at (maybe (maybe o none text) (encode null) (λ u. item 3 u)) end
+  pub found-no-optional : {s mid : List ℕ} (o : Option Yaml) (p : ℕ) (f : FoundAt s o p) (r : Rendered) → r ≡ NoScalar → RendersNear old mid at r → RendersAs (keyText (f .value)) old mid at r → Stored mid new at (encode null) end → Stored old new at (maybe (maybe o none keyText) (encode null) (λ u. item 3 u)) end
   found-no-optional {mid = mid} o p f r e n a w =
-      no-optional-stored (maybe o none text) (found-none old mid at o p f (subst (λ (x : Rendered). RendersAs (text (f .value)) old mid at x) e a)) (unwritten r e n w)
+      no-optional-stored (maybe o none keyText) (found-none old mid at o p f (subst (λ (x : Rendered). RendersAs (keyText (f .value)) old mid at x) e a)) (unwritten r e n w)

@@ -14,9 +14,9 @@ ghost use Rattle.item.specs.Tree.{Yaml, Ranged};
 ghost use Rattle.item.specs.Encode as items;
 ghost use Rattle.item.specs.Encode.{head, number, encode, signed};
 ghost use Rattle.item.specs.Decode.{untwos};
-ghost use Rattle.scalar.specs.Scalars.{text, boolText, intText};
+ghost use Rattle.scalar.specs.Scalars.{keyText, boolText, intText};
 ghost use Rattle.entries.specs.Entries.{Stands, Finds};
-ghost use Rattle.nodes.specs.Agree.{Stored, Near, RendersAs, RendersNear};
+ghost use Rattle.nodes.specs.Contract.{Stored, Near, RendersAs, RendersNear};
 use item::Found;
 use item::Header;
 use item::copy;
@@ -59,7 +59,8 @@ pub fn put(out: &mut [u8], at: usize, bytes: &[u8]) -> usize
 // The header of an item that ends at `end`, if that fits.
 pub fn close(out: &mut [u8], at: usize, kind: usize, end: usize)
     requires { ⌜ (at + 6 ≤ end) × (kind < 65536) × (length (now out) ≤ 1048576) ⌝ }
-    ensures { λ _. ⌜ ((end ≤ length (now (out .entry)) → now (out .exit) ≡ sets (now (out .entry)) at (head kind (end - at - 6))) × (length (now (out .exit)) ≡ length (now (out .entry)))) ⌝ }
+    ensures { λ _. ⌜ ((end ≤ length (now (out .entry)) → now (out .exit) ≡ sets (now (out .entry)) at (head kind (end - at - 6)))
+        × (length (now (out .exit)) ≡ length (now (out .entry)))) ⌝ }
 {
     if end <= out.len() {
         put_header(out, at, kind, end - at - 6);
@@ -160,7 +161,8 @@ fn put_bool(s: &[u8], from: usize, out: &mut [u8], at: usize) -> usize
 pub fn render(s: &[u8], p: usize, out: &mut [u8], at: usize) -> Rendered
     requires { ⌜ (length (now s) ≤ 1048576) × (at ≤ 2251799813685248) × (length (now out) ≤ 1048576) ⌝ }
     ensures { λ r. ⌜ RendersNear (now (out .entry)) (now (out .exit)) at r ⌝ }
-    ensures text { λ r. ⌜ ((y : Yaml) → Ranged y → Stands (now (s .entry)) p (encode y) → RendersAs (text y) (now (out .entry)) (now (out .exit)) at r) ⌝ }
+    ensures text { λ r. ⌜ ((y : Yaml) → Ranged y → Stands (now (s .entry)) p (encode y)
+        → RendersAs (keyText y) (now (out .entry)) (now (out .exit)) at r) ⌝ }
 {
     let head = header_at(s, p);
     let Header::Item { kind, from, to } = head else {
@@ -189,7 +191,8 @@ pub fn render(s: &[u8], p: usize, out: &mut [u8], at: usize) -> Rendered
 pub fn put_found(s: &[u8], found: Found, out: &mut [u8], at: usize) -> usize
     requires { ⌜ (length (now s) ≤ 1048576) × (at ≤ 2251799813685248) × (length (now out) ≤ 1048576) ⌝ }
     ensures { λ r. ⌜ Near (now (out .entry)) (now (out .exit)) at r ⌝ }
-    ensures text { λ r. ⌜ ((o : Option Yaml) → Finds (now (s .entry)) o found → Stored (now (out .entry)) (now (out .exit)) at (items.item 3 (maybe (maybe o none text) [] (λ t. t))) r) ⌝ }
+    ensures text { λ r. ⌜ ((o : Option Yaml) → Finds (now (s .entry)) o found
+        → Stored (now (out .entry)) (now (out .exit)) at (items.item 3 (maybe (maybe o none keyText) [] (λ t. t))) r) ⌝ }
 {
     let Found::At(p) = found else {
         return put_text(out, at, b"");
@@ -204,7 +207,8 @@ pub fn put_found(s: &[u8], found: Found, out: &mut [u8], at: usize) -> usize
 pub fn put_optional(s: &[u8], found: Found, out: &mut [u8], at: usize) -> usize
     requires { ⌜ (length (now s) ≤ 1048576) × (at ≤ 2251799813685248) × (length (now out) ≤ 1048576) ⌝ }
     ensures { λ r. ⌜ Near (now (out .entry)) (now (out .exit)) at r ⌝ }
-    ensures text { λ r. ⌜ ((o : Option Yaml) → Finds (now (s .entry)) o found → Stored (now (out .entry)) (now (out .exit)) at (maybe (maybe o none text) (encode trees.null) (λ t. items.item 3 t)) r) ⌝ }
+    ensures text { λ r. ⌜ ((o : Option Yaml) → Finds (now (s .entry)) o found
+        → Stored (now (out .entry)) (now (out .exit)) at (maybe (maybe o none keyText) (encode trees.null) (λ t. items.item 3 t)) r) ⌝ }
 {
     let Found::At(p) = found else {
         return put_null(out, at);
@@ -219,7 +223,8 @@ pub fn put_optional(s: &[u8], found: Found, out: &mut [u8], at: usize) -> usize
 pub fn put_value(s: &[u8], found: Found, out: &mut [u8], at: usize) -> usize
     requires { ⌜ (length (now s) ≤ 1048576) × (at ≤ 2251799813685248) × (length (now out) ≤ 1048576) ⌝ }
     ensures { λ r. ⌜ Near (now (out .entry)) (now (out .exit)) at r ⌝ }
-    ensures value { λ r. ⌜ ((o : Option Yaml) → Finds (now (s .entry)) o found → Stored (now (out .entry)) (now (out .exit)) at (encode (maybe o trees.null (λ v. v))) r) ⌝ }
+    ensures value { λ r. ⌜ ((o : Option Yaml) → Finds (now (s .entry)) o found
+        → Stored (now (out .entry)) (now (out .exit)) at (encode (maybe o trees.null (λ v. v))) r) ⌝ }
 {
     let Found::At(p) = found else {
         return put_null(out, at);

@@ -8,8 +8,6 @@ use Rattle.refusal.specs.Base.{Answer, good, refused, _>>=_, _>>_, if_then_else
 use Rattle.refusal.specs.Told.{refusal}
 use Rattle.meaning.specs.Meaning.{Meaning}
 use Rattle.meaning.specs.Record.{joined, stepItem, fields}
-use Rattle.entries.specs.declared.Span.{Span}
-use Rattle.entries.specs.declared.Span.the-variants.{At, Nowhere}
 use Rattle.record.specs.Read.{meaningIn}
 use Rattle.record.specs.declared.RecordAnswer.{RecordAnswer}
 use Rattle.record.specs.declared.RecordAnswer.the-variants.{Good, Refused as RecordRefused}
@@ -70,10 +68,6 @@ abbrev pub lookupOf : Lookup → Answer Found
 lookupOf (FoundPart start end) = good (part start end)
 lookupOf Nothing = good nothing
 lookupOf (LookupRefused e) = refusal e
-
-abbrev pub spanOf : Span → Answer Found
-spanOf (At start end) = good (part start end)
-spanOf Nowhere = good nothing
 
 unfoldable pub Jobs-open : Unit {0}
 unfolding opened checkRecord partAt numbered field stepsStart step partOf

@@ -1,13 +1,4 @@
 pub mod Read
 pub mod Jobs
-pub mod Agree
-pub mod Exact
-pub mod Back
-pub mod Views
-pub mod Turns
-pub mod Chains
-pub mod Lookups
-pub mod Headers
-pub mod Answers
+pub mod Contract
 pub mod Theorems
-pub mod Examples

@@ -1,5 +1,5 @@
 -- A record read back: the meaning of bytes that are the record of one within the rules, and none of any other bytes (`Exact` and
--- `Back` show both). Assumes nothing.
+-- `RoundTrip` show both). Assumes nothing.
 use Prim.Native.Nat.{ℕ, zero, suc}
 use mathlib.Core.List.{List, [], _∷_}
 use mathlib.Core.Bool.{Bool}
@@ -126,8 +126,8 @@ restIn s = do
   nothing (defaults, failOn, steps) s₃
 
 -- all eight
-unfoldable pub meaningOf : List ℕ → Option Meaning
-meaningOf s = do
+unfoldable pub fieldsIn : List ℕ → Option Meaning
+fieldsIn s = do
   (name, s₁) ← fieldOf asText 0 s
   (description, s₂) ← fieldOf asText 0 s₁
   (tags, s₃) ← inItem 4 (all (fieldOf asText 0)) s₂
@@ -140,9 +140,9 @@ meaningOf s = do
 unfoldable pub meaningIn : List ℕ → Option Meaning
 meaningIn b =
     if leb (length b) limit
-    then (inItem 16 meaningOf b >>= λ (x : Meaning × List ℕ). nothing (x .0) (x .1))
+    then (inItem 16 fieldsIn b >>= λ (x : Meaning × List ℕ). nothing (x .0) (x .1))
     else none
 
 unfoldable pub Read-open : Unit {0}
-unfolding fieldOf asText asOptional asFlag asItems asCommand asExpect content inItem many all stepIn defaultsIn restIn meaningOf meaningIn
+unfolding fieldOf asText asOptional asFlag asItems asCommand asExpect content inItem many all stepIn defaultsIn restIn fieldsIn meaningIn
 Read-open = tt

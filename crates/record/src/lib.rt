@@ -6,8 +6,8 @@ ghost use lib.ListN.{length, drop};
 ghost use Rattle.value.specs.Walks.{Walks};
 ghost use Rattle.record.specs.Read.{fieldOf};
 ghost use Rattle.record.specs.Jobs as definition;
-ghost use Rattle.record.specs.Jobs.{partOf, answerOf, lookupOf, spanOf};
-ghost use Rattle.record.specs.Agree.{ofKind, expectKind, Holds, areTexts, areDefaults, isStep, stepsIn, restSteps, meaningSteps, countOf};
+ghost use Rattle.record.specs.Jobs.{partOf, answerOf, lookupOf};
+ghost use Rattle.record.specs.Contract.{spanOf, ofKind, expectKind, ItemEnds, areTexts, areDefaults, isStep, stepsIn, restSteps, meaningSteps, countOf};
 use entries::Span;
 use entries::nth_item;
 use item::Header;
@@ -75,7 +75,7 @@ fn value_of(s: &[u8], at: usize, one: usize, other: usize, levels: usize) -> End
 
 // The end of the item at `at`, which must be of this kind.
 fn item_of(s: &[u8], at: usize, wanted: usize) -> End
-    ensures { λ r. ⌜ Holds wanted (now (s .entry)) at r ⌝ }
+    ensures { λ r. ⌜ ItemEnds wanted (now (s .entry)) at r ⌝ }
 {
     let head = header_at(s, at);
     let Header::Item { kind, from: _, to } = head else {
@@ -238,18 +238,18 @@ pub fn check_record(record: &[u8]) -> RecordAnswer
     ensures { λ r. ⌜ answerOf r ≡ definition.checkRecord (now («record» .entry)) ⌝ }
 {
     if record.len() > LIMIT {
-        return RecordAnswer::Refused(Refusal::NotARecord);
+        return RecordAnswer::Refused(Refusal::Malformed);
     }
     let whole = item_of(record, 0, 16);
     let End::At(end) = whole else {
-        return RecordAnswer::Refused(Refusal::NotARecord);
+        return RecordAnswer::Refused(Refusal::Malformed);
     };
     if end != record.len() {
-        return RecordAnswer::Refused(Refusal::NotARecord);
+        return RecordAnswer::Refused(Refusal::Malformed);
     }
     match fields(&record[6..end]) {
         Count::Steps(steps) => RecordAnswer::Good { steps },
-        Count::Bad => RecordAnswer::Refused(Refusal::NotARecord),
+        Count::Bad => RecordAnswer::Refused(Refusal::Malformed),
     }
 }
 

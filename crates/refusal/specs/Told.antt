@@ -3,7 +3,7 @@ use Prim.Native.Nat.{ℕ}
 use Rattle.refusal.specs.Base.{Answer, refused}
 use Rattle.refusal.specs.declared.Told.{Told}
 use Rattle.refusal.specs.declared.Refusal.{Refusal}
-use Rattle.refusal.specs.declared.Refusal.the-variants.{TextTooLong, NotUtf8, TooManyLines, TabInIndentation, DocumentMarker, LinesLeft, AnchorAliasOrTag, TextAfterValue, FlowMappingOpen, FlowSequenceOpen, EscapeCut, UnknownEscape, QuoteOpen, EmptyKey, ComplexKey, KeyNotScalar, KeyWithoutColon, KeyTwice, StuckSequence, TooDeep, DocumentNotMapping, UnknownTopKey, OtherSchema, NoSchema, NoName, TagsNotSequence, FailOnNotSequence, DefaultsNotMapping, UnknownDefault, DefaultNotScalar, StepsNotSequence, StepNotMapping, ExpectNotMapping, NotOneCommand, ExpectBesideBuiltIn, UnknownCommand, RepeatWithoutSteps, TimesNotPositive, TimesTooLarge, NotARecord, WorkTooShort, TooFewLinePlaces, RecordTooLong, OutOfRange}
+use Rattle.refusal.specs.declared.Refusal.the-variants.{TextTooLong, NotUtf8, TooManyLines, TabInIndentation, DocumentMarker, LinesLeft, AnchorAliasOrTag, TextAfterValue, FlowMappingOpen, FlowSequenceOpen, EscapeCut, UnknownEscape, QuoteOpen, EmptyKey, ComplexKey, KeyNotScalar, KeyWithoutColon, KeyTwice, StuckSequence, TooDeep, DocumentNotMapping, UnknownTopKey, OtherSchema, NoSchema, NoName, TagsNotSequence, FailOnNotSequence, DefaultsNotMapping, UnknownDefault, DefaultNotScalar, StepsNotSequence, StepNotMapping, ExpectNotMapping, NotOneCommand, ExpectBesideBuiltIn, UnknownCommand, RepeatWithoutSteps, TimesNotPositive, TimesTooLarge, Malformed, WorkTooShort, TooFewLinePlaces, RecordTooLong, OutOfRange}
 
 abbrev pub told : ℕ → ℕ → ℕ → Told
 told n l s = record { number = n; line = l; step = s }
@@ -48,7 +48,7 @@ toldOf (UnknownCommand line step) = told 36 line step
 toldOf (RepeatWithoutSteps step) = told 37 0 step
 toldOf (TimesNotPositive step) = told 38 0 step
 toldOf (TimesTooLarge step) = told 39 0 step
-toldOf NotARecord = told 40 0 0
+toldOf Malformed = told 40 0 0
 toldOf WorkTooShort = told 50 0 0
 toldOf TooFewLinePlaces = told 51 0 0
 toldOf RecordTooLong = told 52 0 0

@@ -1,9 +1,5 @@
 pub mod Scalars
 pub mod Key
 pub mod Read
-pub mod Agree
+pub mod Contract
 pub mod Code
-pub mod KeyLaws
-pub mod NumberLaws
-pub mod Laws
-pub mod QuoteLaws

@@ -81,14 +81,14 @@ boolText true = bytes "true"
 boolText false = bytes "false"
 
 -- `as_str`: none for null and collections
-unfoldable pub text : Yaml → Option (List ℕ)
-text null = none
-text (bool b) = some (boolText b)
-text (int z) = some (intText z)
-text (str s) = some s
-text (seq ys) = none
-text (dict es) = none
+unfoldable pub keyText : Yaml → Option (List ℕ)
+keyText null = none
+keyText (bool b) = some (boolText b)
+keyText (int z) = some (intText z)
+keyText (str s) = some s
+keyText (seq ys) = none
+keyText (dict es) = none
 
 unfoldable pub Scalars-open : Unit {0}
-unfolding isDigit allDigits decimalFrom digits positive negative integer intOr scalarOf decimalOf intText boolText text
+unfolding isDigit allDigits decimalFrom digits positive negative integer intOr scalarOf decimalOf intText boolText keyText
 Scalars-open = tt

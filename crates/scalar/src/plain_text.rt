@@ -10,7 +10,7 @@ ghost use Rattle.item.specs.Encode.{signed, item};
 ghost use Rattle.scalar.specs.Scalars.{nulls, trues, falses, scalarOf, intText};
 ghost use Rattle.scalar.specs.Read as read;
 ghost use Rattle.scalar.specs.Read.{endsItem, endsColon, stopsPlain, scalar};
-ghost use Rattle.scalar.specs.Agree.{written, Agrees};
+ghost use Rattle.scalar.specs.Contract.{written, Agrees};
 ghost use Rattle.scalar.specs.Code.{yamlOf, Puts, plainLen};
 use super::Parsed;
 use super::Role;
@@ -215,7 +215,9 @@ fn put_int_as(
 // The scalar that a trimmed text says, in its role.
 fn put_scalar(t: &[u8], next: usize, role: Role, out: &mut [u8], at: usize) -> Parsed
     requires { ⌜ (length (now t) ≤ 65535) × (at ≤ length (now out)) × (length (now out) ≤ 1048576) ⌝ }
-    ensures { λ r. ⌜ ((s : List ℕ) (number : ℕ) → next ≤ length s → Agrees role (scalar (length (now (out .entry))) number role at (scalarOf (now (t .entry))) (drop next s)) s (now (out .entry)) (now (out .exit)) at r) ⌝ }
+    ensures { λ r. ⌜ ((s : List ℕ) (number : ℕ) → next ≤ length s
+        → Agrees role (scalar (length (now (out .entry))) number role at (scalarOf (now (t .entry))) (drop next s)) s (now (out .entry))
+        (now (out .exit)) at r) ⌝ }
 {
     match kind_of(t) {
         Kind::Null => put_null_as(next, role, out, at),
@@ -231,7 +233,8 @@ fn put_scalar(t: &[u8], next: usize, role: Role, out: &mut [u8], at: usize) -> P
 // A null that nobody wrote.
 pub fn null_at(s: &[u8], next: usize, role: Role, out: &mut [u8], at: usize) -> Parsed
     requires { ⌜ (next ≤ length (now s)) × (length (now s) ≤ 65535) × (at ≤ length (now out)) × (length (now out) ≤ 1048576) ⌝ }
-    ensures { λ r. ⌜ ((number : ℕ) → Agrees role (scalar (length (now (out .entry))) number role at null (drop next (now (s .entry)))) (now (s .entry)) (now (out .entry)) (now (out .exit)) at r) ⌝ }
+    ensures { λ r. ⌜ ((number : ℕ) → Agrees role (scalar (length (now (out .entry))) number role at null (drop next (now (s .entry))))
+        (now (s .entry)) (now (out .entry)) (now (out .exit)) at r) ⌝ }
 {
     put_null_as(next, role, out, at)
 }
@@ -302,7 +305,8 @@ pub fn plain(
     at: usize,
 ) -> Parsed
     requires { ⌜ (i ≤ length (now s)) × (length (now s) ≤ 65535) × (at ≤ length (now out)) × (length (now out) ≤ 1048576) ⌝ }
-    ensures { λ r. ⌜ Agrees role (read.plain (length (now (out .entry))) line in_flow role at (drop i (now (s .entry)))) (now (s .entry)) (now (out .entry)) (now (out .exit)) at r ⌝ }
+    ensures { λ r. ⌜ Agrees role (read.plain (length (now (out .entry))) line in_flow role at (drop i (now (s .entry)))) (now (s .entry))
+        (now (out .entry)) (now (out .exit)) at r ⌝ }
 {
     let end = plain_end(s, i, in_flow);
     put_scalar(trimmed(&s[i..end]), end, role, out, at)

@@ -8,7 +8,7 @@ ghost use lib.Seq.{sets};
 ghost use Rattle.refusal.specs.Base.{good};
 ghost use Rattle.scalar.specs.declared.Role.{Role as Roles};
 ghost use Rattle.scalar.specs.Read.{escape, doubleQuoted, singleQuoted, string};
-ghost use Rattle.scalar.specs.Agree.{Agrees};
+ghost use Rattle.scalar.specs.Contract.{Agrees};
 ghost use Rattle.scalar.specs.Code.{escapeOf, quotedOf, Steps, Spans};
 use super::Parsed;
 use super::Role;
@@ -144,7 +144,8 @@ fn span_of(quote: Quote, s: &[u8], i: usize, line: u32) -> Span
 // The string's bytes, of which there are `size`.
 fn put_bytes(quote: Quote, s: &[u8], i: usize, line: u32, size: usize, out: &mut [u8], at: usize)
     requires { ⌜ (i ≤ length (now s)) × (at + size ≤ length (now out)) ⌝ }
-    ensures { λ _. ⌜ ((cap : ℕ) (t rest : List ℕ) → quotedOf quote cap line (drop i (now (s .entry))) ≡ good (t, rest) → length t ≡ size → now (out .exit) ≡ sets (now (out .entry)) at t) ⌝ }
+    ensures { λ _. ⌜ ((cap : ℕ) (t rest : List ℕ) → quotedOf quote cap line (drop i (now (s .entry))) ≡ good (t, rest) → length t ≡ size
+        → now (out .exit) ≡ sets (now (out .entry)) at t) ⌝ }
 {
     let mut place = i;
     let mut done = 0;
@@ -160,7 +161,9 @@ fn put_bytes(quote: Quote, s: &[u8], i: usize, line: u32, size: usize, out: &mut
 
 fn quoted(quote: Quote, s: &[u8], i: usize, line: u32, out: &mut [u8], at: usize) -> Parsed
     requires { ⌜ (i ≤ length (now s)) × (length (now s) ≤ 65535) × (at ≤ length (now out)) × (length (now out) ≤ 1048576) ⌝ }
-    ensures { λ r. ⌜ ((role : Roles) → Agrees role (string (length (now (out .entry))) line role at (quotedOf quote (length (now (out .entry))) line (drop i (now (s .entry))))) (now (s .entry)) (now (out .entry)) (now (out .exit)) at r) ⌝ }
+    ensures { λ r. ⌜ ((role : Roles) → Agrees role (string (length (now (out .entry))) line role at
+        (quotedOf quote (length (now (out .entry))) line (drop i (now (s .entry))))) (now (s .entry)) (now (out .entry)) (now (out .exit))
+        at r) ⌝ }
 {
     match span_of(quote, s, i, line) {
         Span::Ends { next, size } => {
@@ -181,14 +184,18 @@ fn quoted(quote: Quote, s: &[u8], i: usize, line: u32, out: &mut [u8], at: usize
 
 pub fn double_quoted(s: &[u8], i: usize, role: Role, line: u32, out: &mut [u8], at: usize) -> Parsed
     requires { ⌜ (i ≤ length (now s)) × (length (now s) ≤ 65535) × (at ≤ length (now out)) × (length (now out) ≤ 1048576) ⌝ }
-    ensures { λ r. ⌜ Agrees role (string (length (now (out .entry))) line role at (doubleQuoted (length (now (out .entry))) line false (drop i (now (s .entry))))) (now (s .entry)) (now (out .entry)) (now (out .exit)) at r ⌝ }
+    ensures { λ r. ⌜ Agrees role (string (length (now (out .entry))) line role at
+        (doubleQuoted (length (now (out .entry))) line false (drop i (now (s .entry))))) (now (s .entry)) (now (out .entry))
+        (now (out .exit)) at r ⌝ }
 {
     quoted(Quote::Double, s, i, line, out, at)
 }
 
 pub fn single_quoted(s: &[u8], i: usize, role: Role, line: u32, out: &mut [u8], at: usize) -> Parsed
     requires { ⌜ (i ≤ length (now s)) × (length (now s) ≤ 65535) × (at ≤ length (now out)) × (length (now out) ≤ 1048576) ⌝ }
-    ensures { λ r. ⌜ Agrees role (string (length (now (out .entry))) line role at (singleQuoted (length (now (out .entry))) line false (drop i (now (s .entry))))) (now (s .entry)) (now (out .entry)) (now (out .exit)) at r ⌝ }
+    ensures { λ r. ⌜ Agrees role (string (length (now (out .entry))) line role at
+        (singleQuoted (length (now (out .entry))) line false (drop i (now (s .entry))))) (now (s .entry)) (now (out .entry))
+        (now (out .exit)) at r ⌝ }
 {
     quoted(Quote::Single, s, i, line, out, at)
 }

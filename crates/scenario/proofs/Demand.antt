@@ -8,24 +8,25 @@ use lib.Dec.{leb}
 use lib.ListN.{length, getD}
 use borrow.Author.Tests.{leb-true}
 use Rattle.refusal.specs.Base.{Answer, good, refused, _>>=_, _>>_, ensure, given}
-use Rattle.refusal.specs.Tools.{ensured, good-inj, bound}
-use Rattle.item.specs.Exact.{Bytes}
+use Rattle.refusal.proofs.Tools.{ensured, good-inj, bound}
+use Rattle.item.specs.Encode.{Bytes}
 use Rattle.lines.specs.Lines.{Line, significantLines}
 use Rattle.tree.specs.Tree.{admitted, treeOf, tree}
-use Rattle.tree.specs.Sound.{Sound, tree-sound}
+use Rattle.tree.proofs.Sound.{Sound, tree-sound}
 use Rattle.meaning.specs.Meaning.{Step}
 use Rattle.meaning.specs.Record.{stepItem, fields, recordOf}
 use Rattle.meaning.specs.Rules.{Rules, IsRecord}
 use Rattle.record.specs.Read as Read
 use Rattle.record.specs.Jobs.{opened, checkRecord, field, step}
-use Rattle.record.specs.Back as Back
-use Rattle.record.specs.Back.{one-to-one}
-use Rattle.record.specs.Theorems.{Decides, check-decides, Gives, shown, together, field-back, step-back, step-beyond, read-back}
+use Rattle.record.proofs.RoundTrip as Back
+use Rattle.record.proofs.RoundTrip.{one-to-one}
+use Rattle.record.specs.Theorems.{Decides, Gives, shown, together}
+use Rattle.record.proofs.Theorems.{check-decides, field-back, step-back, step-beyond, read-back}
 use Rattle.step_lines.specs.StepLines.{stepLines, tailLines}
 use Rattle.meaning.specs.Meanings.{meaningOf}
 use Rattle.scenario.specs.Scenario.{Reading, linesFor, readingOf, scenario}
-use Rattle.scenario.proofs.Kept.{meaning-kept}
-use Rattle.scenario.proofs.Lent.{Agree, itself, binds, thens, treeOfs}
+use Rattle.scenario.proofs.KeepsRules.{meaning-kept}
+use Rattle.scenario.proofs.AnyWork.{Agree, itself, binds, thens, treeOfs}
 
 -- ---- the record check, of any bytes
 
@@ -120,11 +121,11 @@ module _ (work room places : ℕ) (text : List ℕ) (r : Reading) (e : scenario 
   steps-beyond = step-beyond (recordOf (r .meaning)) (r .meaning) accepted-record
 
   -- what the two lookups give, put together, is read as the meaning
-  pub meaning-back : Read.meaningOf (lookedUp (recordOf (r .meaning)) (length (r .meaning .steps))) ≡ some (r .meaning)
+  pub meaning-back : Read.fieldsIn (lookedUp (recordOf (r .meaning)) (length (r .meaning .steps))) ≡ some (r .meaning)
   meaning-back = read-back (recordOf (r .meaning)) (r .meaning) accepted-record
 
   -- for as many steps as the check counts, so that the record alone tells the meaning
-  pub meaning-found : (n : ℕ) → checkRecord (recordOf (r .meaning)) ≡ good n → Read.meaningOf (lookedUp (recordOf (r .meaning)) n) ≡ some (r .meaning)
+  pub meaning-found : (n : ℕ) → checkRecord (recordOf (r .meaning)) ≡ good n → Read.fieldsIn (lookedUp (recordOf (r .meaning)) n) ≡ some (r .meaning)
   meaning-found n p = rw (← good-inj _ _ (sym accepted-check ∙ p)) meaning-back
 
   -- a line for each step

@@ -1,9 +1,9 @@
-mod Turns
+mod Invariants
 mod Writing
 mod Reading
-mod Kept
-pub mod Lent
+mod KeepsRules
+pub mod AnyWork
 pub mod Demand
-pub mod Job
-pub mod Table
+pub mod ReadScenario
+pub mod Starred
 pub mod Examples

@@ -8,7 +8,7 @@ use lib.Seq.{sets, sets-eq, length-take-le, drop-append-le}
 use borrow.Author.Tests.{le-leb, lt-leb}
 use Rattle.refusal.specs.Base.{Answer, good, refused, _>>=_, _>>_, ensure}
 use Rattle.refusal.specs.Told.{toldOf, refusal}
-use Rattle.refusal.specs.Tools.{bound}
+use Rattle.refusal.proofs.Tools.{bound}
 use Rattle.refusal.specs.declared.Refusal.{Refusal}
 use Rattle.item.specs.Tree.{Yaml}
 use Rattle.item.specs.Encode.{encode}
@@ -19,13 +19,13 @@ use Rattle.meaning.specs.Meanings.{meaningOf}
 use Rattle.meaning.specs.Meaning.{Meaning}
 use Rattle.meaning.specs.Record.{recordOf}
 use Rattle.tree.specs.Tree.{admitted, treeOf, tree}
-use Rattle.tree.specs.Agree.{WroteTree}
+use Rattle.tree.specs.Contract.{WroteTree}
 use Rattle.scenario.specs.declared.Steps.{Steps}
 use Rattle.scenario.specs.declared.Steps.the-variants.{Done, Refused}
 use Rattle.scenario.specs.declared.ScenarioAnswer.{ScenarioAnswer}
 use Rattle.scenario.specs.declared.ScenarioAnswer.the-variants.{Read, Refused as Unread}
-use Rattle.scenario.specs.Scenario.{Reading, linesFor, readingOf, scenario, output, treeBytes, recordBytes, stepNumbers}
-use Rattle.scenario.specs.Agree.{WroteSteps, AgreesSteps, WroteScenario, AgreesScenario, answerOf, told}
+use Rattle.scenario.specs.Scenario.{Reading, linesFor, readingOf, scenario, output, treeBytes, recordBytes, stepNumbers, answerOf, sizesOf}
+use Rattle.scenario.specs.Contract.{WroteSteps, AgreesSteps, WroteScenario, AgreesScenario}
 
 -- a tree at the front stands there
 pub tree-stands : (old new : List ℕ) (y : Yaml) → new ≡ sets old 0 (encode y) → length (encode y) ≤ length old → Stands new 0 (encode y)
@@ -183,11 +183,11 @@ lent-length old new n h k = length-append new (drop n old) ∙ omega (arith, len
 
 module _ (x : Answer Reading) (work tree′ room bytes places lines : List ℕ) (w r p : ℕ) (hw : w ≤ length work) (hr : r ≤ length room) (hp : p ≤ length places)
     (a : ScenarioAnswer) (v : AgreesScenario x (take w work) tree′ (take r room) bytes (take p places) lines a) where
-  pub told-is : answerOf a ≡ told x
-  unfolding told
+  pub told-is : answerOf a ≡ sizesOf x
+  unfolding sizesOf
   told-is = go a v
     where
-      go : (c : ScenarioAnswer) → AgreesScenario x (take w work) tree′ (take r room) bytes (take p places) lines c → answerOf c ≡ told x
+      go : (c : ScenarioAnswer) → AgreesScenario x (take w work) tree′ (take r room) bytes (take p places) lines c → answerOf c ≡ sizesOf x
       go (Read t e l n) q = rw (q .is, q .lines-size, q .tree-size, q .record-size) (ap (λ (k : ℕ). good (length (encode (q .read .tree)), length (recordOf (q .read .meaning)), 4 * k, n)) (q .lines-many) ∙ ap (λ (k : ℕ). good (length (encode (q .read .tree)), length (recordOf (q .read .meaning)), 4 * length (q .read .lines), k)) (q .steps-many))
       go (Unread z) q = rw q
 

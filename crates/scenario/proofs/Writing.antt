@@ -10,10 +10,10 @@ use Rattle.item.specs.Encode.{head}
 use Rattle.meaning.specs.Meaning.{Step}
 use Rattle.meaning.specs.Record.{joined, stepsItem, fields, recordOf}
 use Rattle.meaning.specs.Meanings.{stepsFrom, Top, topOf, withSteps, meaningOf}
-use Rattle.nodes.specs.Agree.{Stored}
+use Rattle.nodes.specs.Contract.{Stored}
 use Rattle.nodes.proofs.Storing.{stored-then, stored-is, stored-item}
-use Rattle.top.specs.Agree.{topFields}
-use Rattle.scenario.specs.Agree.{WroteSteps}
+use Rattle.top.specs.Contract.{topFields}
+use Rattle.scenario.specs.Contract.{WroteSteps}
 
 -- 21 to 31
 pub top-refused : (lines : List ℕ) (y : Yaml) {k l s : ℕ} → topOf y ≡ refused k l s → meaningOf lines y ≡ refused k l s

@@ -1,2 +1,2 @@
 pub mod Scenario
-pub mod Agree
+pub mod Contract

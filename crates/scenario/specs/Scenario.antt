@@ -1,5 +1,5 @@
 -- The scenario of a whole text: its tree, its meaning and the lines of its steps (`step_lines`), or its refusal. Assumes nothing.
-use Prim.Native.Nat.{ℕ, min}
+use Prim.Native.Nat.{ℕ, _*_, min}
 use mathlib.Core.List.{List, [], _∷_, _++_}
 use lib.Dec.{leb}
 use lib.ListN.{length, drop, replicate}
@@ -10,6 +10,9 @@ use Rattle.lines.specs.Lines.{significantLines}
 use Rattle.tree.specs.Tree.{admitted, treeOf}
 use Rattle.meaning.specs.Meaning.{Step, Meaning}
 use Rattle.meaning.specs.Record.{recordOf}
+use Rattle.refusal.specs.Told.{refusal}
+use Rattle.scenario.specs.declared.ScenarioAnswer.{ScenarioAnswer}
+use Rattle.scenario.specs.declared.ScenarioAnswer.the-variants.{Read, Refused as Unread}
 use Rattle.step_lines.specs.StepLines.{stepLines, headLine, tailLines}
 use Rattle.meaning.specs.Meanings.{meaningOf}
 
@@ -42,6 +45,10 @@ scenario work room places text = do
   ensure (leb (length (recordOf (r .meaning))) (min room 1048576)) 52 0 0
   good r
 
+-- the same of what is lent
+abbrev pub scenarioOf : List ℕ → List ℕ → List ℕ → List ℕ → Answer Reading
+scenarioOf work room places text = scenario (length work) (length room) (length places) text
+
 -- what is left in a lent output: what is written of a reading, and behind it what was there; or zeros
 unfoldable pub output : (Reading → List ℕ) → Answer Reading → List ℕ → List ℕ
 output write (good r) old = write r ++ drop (length (write r)) old
@@ -56,6 +63,16 @@ recordBytes r = recordOf (r .meaning)
 unfoldable pub stepNumbers : Reading → List ℕ
 stepNumbers r = r .lines
 
+-- what the code's answer says: the bytes of tree, record and lines, and the steps
+abbrev pub answerOf : ScenarioAnswer → Answer (ℕ × ℕ × ℕ × ℕ)
+answerOf (Read t r l n) = good (t, r, l, n)
+answerOf (Unread e) = refusal e
+
+-- what it should say; a line place has four bytes
+unfoldable pub sizesOf : Answer Reading → Answer (ℕ × ℕ × ℕ × ℕ)
+sizesOf (good r) = good (length (encode (r .tree)), length (recordOf (r .meaning)), 4 * length (r .lines), length (r .meaning .steps))
+sizesOf (refused k l s) = refused k l s
+
 unfoldable pub Scenario-open : Unit {0}
-unfolding linesFor readingOf scenario output treeBytes recordBytes stepNumbers
+unfolding linesFor readingOf scenario output treeBytes recordBytes stepNumbers sizesOf
 Scenario-open = tt

@@ -5,16 +5,13 @@ ghost use Prim.Native.Nat.{_≤_, _<_, min};
 ghost use lib.ListN.{length, set};
 ghost use Rattle.item.specs.Tree.{Yaml, Items, Ranged};
 ghost use Rattle.item.specs.Encode.{encode};
-ghost use Rattle.lines.specs.Table.{tableLines};
 ghost use Rattle.lines.specs.Ready.{Ready};
 ghost use Rattle.entries.specs.Entries.{Stands, Holds};
 ghost use Rattle.meaning.specs.Record.{stepsItem, recordOf};
 ghost use Rattle.meaning.specs.Meanings.{stepsFrom, meaningOf};
-ghost use Rattle.step_lines.specs.StepLines.{stepLines};
-ghost use Rattle.top.specs.Agree.{RangeInside};
-ghost use Rattle.scenario.specs.Scenario as definition;
-ghost use Rattle.scenario.specs.Scenario.{output, treeBytes, recordBytes, stepNumbers};
-ghost use Rattle.scenario.specs.Agree.{AgreesSteps, StepsNear, AgreesScenario, answerOf, told};
+ghost use Rattle.top.specs.Contract.{RangeInside};
+ghost use Rattle.scenario.specs.Scenario.{scenarioOf, output, treeBytes, recordBytes, stepNumbers, answerOf, sizesOf};
+ghost use Rattle.scenario.specs.Contract.{WritesSteps, StepsNear, AgreesScenario};
 use entries::Span;
 use entries::item_at;
 use item::zero_bytes;
@@ -51,7 +48,8 @@ pub enum ScenarioAnswer {
 
 // Stores a number if there is a place for it.
 fn store(lines: &mut [u32], i: usize, n: u32)
-    ensures { λ _. ⌜ ((i < length (now (lines .entry)) → (now (lines .exit)) ≡ set (now (lines .entry)) i n) × (length (now (lines .exit)) ≡ length (now (lines .entry)))) ⌝ }
+    ensures { λ _. ⌜ ((i < length (now (lines .entry)) → (now (lines .exit)) ≡ set (now (lines .entry)) i n)
+        × (length (now (lines .exit)) ≡ length (now (lines .entry)))) ⌝ }
 {
     if i < lines.len() {
         lines[i] = n;
@@ -69,9 +67,12 @@ fn put_steps(
     at: usize,
     lines: &mut [u32],
 ) -> Steps
-    requires { ⌜ RangeInside (now s) range × (length (now s) ≤ 1048576) × Ready (now text) (now table) count × (at ≤ 562949953421312) × (length (now out) ≤ 1048576) ⌝ }
+    requires { ⌜ RangeInside (now s) range × (length (now s) ≤ 1048576) × Ready (now text) (now table) count × (at ≤ 562949953421312)
+        × (length (now out) ≤ 1048576) ⌝ }
     ensures { λ r. ⌜ StepsNear (now (out .entry)) (now (out .exit)) at (now (lines .entry)) (now (lines .exit)) r ⌝ }
-    ensures steps { λ r. ⌜ ((ys : Items) → Holds (now (s .entry)) (range .from) (range .to) ys → AgreesSteps (stepsFrom 1 (stepLines (tableLines (now (text .entry)) (now (table .entry)) count)) ys) stepsItem (λ ss. ss) (stepLines (tableLines (now (text .entry)) (now (table .entry)) count)) (now (out .entry)) (now (out .exit)) at (now (lines .entry)) (now (lines .exit)) r) ⌝ }
+    ensures steps { λ r. ⌜ ((ys : Items) → Holds (now (s .entry)) (range .from) (range .to) ys
+        → WritesSteps (λ lines. stepsFrom 1 lines ys) stepsItem (λ ss. ss) (now (text .entry)) (now (table .entry)) count
+        (now (out .entry)) (now (out .exit)) at (now (lines .entry)) (now (lines .exit)) r) ⌝ }
 {
     let first = first_dash(text, table, count);
     let mut i = range.from;
@@ -116,7 +117,9 @@ fn put_record(
 ) -> Steps
     requires { ⌜ (length (now s) ≤ 1048576) × Ready (now text) (now table) count × (length (now out) ≤ 1048576) ⌝ }
     ensures { λ r. ⌜ StepsNear (now (out .entry)) (now (out .exit)) 0 (now (lines .entry)) (now (lines .exit)) r ⌝ }
-    ensures whole { λ r. ⌜ ((y : Yaml) → Ranged y → Stands (now (s .entry)) 0 (encode y) → AgreesSteps (meaningOf (stepLines (tableLines (now (text .entry)) (now (table .entry)) count)) y) recordOf (λ m. m .steps) (stepLines (tableLines (now (text .entry)) (now (table .entry)) count)) (now (out .entry)) (now (out .exit)) 0 (now (lines .entry)) (now (lines .exit)) r) ⌝ }
+    ensures whole { λ r. ⌜ ((y : Yaml) → Ranged y → Stands (now (s .entry)) 0 (encode y)
+        → WritesSteps (λ lines. meaningOf lines y) recordOf (λ m. m .steps) (now (text .entry)) (now (table .entry)) count
+        (now (out .entry)) (now (out .exit)) 0 (now (lines .entry)) (now (lines .exit)) r) ⌝ }
 {
     match read_top(s) {
         TopRead::Refused(e) => Steps::Refused(e),
@@ -142,7 +145,9 @@ fn read(
     lines: &mut [u32],
 ) -> ScenarioAnswer
     requires { ⌜ (length (now work) ≤ 1048576) × (length (now «record») ≤ 1048576) × (length (now lines) ≤ 262144) ⌝ }
-    ensures { λ r. ⌜ AgreesScenario (definition.scenario (length (now (work .entry))) (length (now («record» .entry))) (length (now (lines .entry))) (now (text .entry))) (now (work .entry)) (now (work .exit)) (now («record» .entry)) (now («record» .exit)) (now (lines .entry)) (now (lines .exit)) r ⌝ }
+    ensures { λ r. ⌜ AgreesScenario (scenarioOf (now (work .entry)) (now («record» .entry)) (now (lines .entry)) (now (text .entry)))
+        (now (work .entry)) (now (work .exit)) (now («record» .entry)) (now («record» .exit)) (now (lines .entry)) (now (lines .exit))
+        r ⌝ }
 {
     match read_with(text, table, work) {
         TreeRead::Refused(e) => ScenarioAnswer::Refused(e),
@@ -186,10 +191,14 @@ pub fn read_scenario(
     record: &mut [u8],
     lines: &mut [u32],
 ) -> ScenarioAnswer
-    ensures answer { λ r. ⌜ answerOf r ≡ told (definition.scenario (length (now (work .entry))) (length (now («record» .entry))) (length (now (lines .entry))) (now (text .entry))) ⌝ }
-    ensures tree { λ r. ⌜ now (work .exit) ≡ output treeBytes (definition.scenario (length (now (work .entry))) (length (now («record» .entry))) (length (now (lines .entry))) (now (text .entry))) (now (work .entry)) ⌝ }
-    ensures bytes { λ r. ⌜ now («record» .exit) ≡ output recordBytes (definition.scenario (length (now (work .entry))) (length (now («record» .entry))) (length (now (lines .entry))) (now (text .entry))) (now («record» .entry)) ⌝ }
-    ensures numbers { λ r. ⌜ now (lines .exit) ≡ output stepNumbers (definition.scenario (length (now (work .entry))) (length (now («record» .entry))) (length (now (lines .entry))) (now (text .entry))) (now (lines .entry)) ⌝ }
+    ensures answer { λ r. ⌜ answerOf r ≡ sizesOf (scenarioOf (now (work .entry)) (now («record» .entry)) (now (lines .entry))
+        (now (text .entry))) ⌝ }
+    ensures tree { λ r. ⌜ now (work .exit) ≡ output treeBytes
+        (scenarioOf (now (work .entry)) (now («record» .entry)) (now (lines .entry)) (now (text .entry))) (now (work .entry)) ⌝ }
+    ensures bytes { λ r. ⌜ now («record» .exit) ≡ output recordBytes
+        (scenarioOf (now (work .entry)) (now («record» .entry)) (now (lines .entry)) (now (text .entry))) (now («record» .entry)) ⌝ }
+    ensures numbers { λ r. ⌜ now (lines .exit) ≡ output stepNumbers
+        (scenarioOf (now (work .entry)) (now («record» .entry)) (now (lines .entry)) (now (text .entry))) (now (lines .entry)) ⌝ }
 {
     let mut table = [0u16; 8192];
     let w = counted(work.len(), 1048576);

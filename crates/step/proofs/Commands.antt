@@ -10,7 +10,7 @@ use Rattle.entries.specs.Entries.{Holds}
 use Rattle.entries.proofs.Walking.{no-more, first-ranged, others-ranged, Turn}
 use Rattle.meaning.specs.Meaning.{stepFields}
 use Rattle.meaning.specs.Meanings.{commands, commandOf}
-use Rattle.step.specs.Agree.{FirstCommand, OneCommand}
+use Rattle.step.specs.Contract.{FirstCommand, OneCommand}
 
 -- ---- the walk to the first
 

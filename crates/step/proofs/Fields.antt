@@ -15,7 +15,7 @@ use Rattle.entries.specs.Entries.{FoundAt, content}
 use Rattle.entries.proofs.Standing.{stands-is, stands-byte, Valued}
 use Rattle.entries.proofs.Values.{a-bool, mapped}
 use Rattle.meaning.specs.Meanings.{expectOf, isTrue}
-use Rattle.step.specs.Agree.{mapping, AgreesExpect}
+use Rattle.step.specs.Contract.{mapping, AgreesExpect}
 
 other-true : (y : Yaml) → (kindOf y ≡ 1 → ⊥) → false ≡ isTrue (some y)
 unfolding isTrue kindOf

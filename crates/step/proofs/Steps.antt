@@ -12,7 +12,7 @@ use Rattle.item.specs.declared.Found.{Found}
 use Rattle.entries.specs.Entries.{Finds}
 use Rattle.meaning.specs.Meaning.{builtInSteps}
 use Rattle.meaning.specs.Meanings.{scalarAt, orEmpty, expectOf, commands, commandOf, expectAllowed, isTrue, stepOf, stepAt}
-use Rattle.step.specs.Agree.{mapping, ReadsStep, AgreesExpect, OneCommand, AgreesAllowed}
+use Rattle.step.specs.Contract.{mapping, ReadsStep, AgreesExpect, OneCommand, AgreesAllowed}
 
 -- ---- 32
 

@@ -11,18 +11,18 @@ use Rattle.item.specs.Encode.{item, encode}
 use Rattle.item.specs.declared.Found.{Found}
 use Rattle.item.specs.declared.Found.the-variants as found
 use Rattle.entries.specs.Entries.{Finds}
-use Rattle.nodes.specs.Agree.{Stored, Reads}
+use Rattle.nodes.specs.Contract.{Stored, Reads}
 use Rattle.nodes.proofs.Storing.{stored-is}
 use Rattle.meaning.specs.Meaning.{Step}
 use Rattle.meaning.specs.Meanings.{isTrue}
-use Rattle.meaning.specs.Record.{joined, optional, expected, text, stepParts, stepItem}
-use Rattle.step.specs.Agree.{EntryAt, mapping}
+use Rattle.meaning.specs.Record.{joined, optional, expected, textItem, stepParts, stepItem}
+use Rattle.step.specs.Contract.{EntryAt, mapping}
 
 -- ---- the command
 
 module _ {s : List ℕ} {key value : ℕ} {k : List ℕ} {v : Yaml} (e : EntryAt s key value k v) where
-  pub key-stored : {old new : List ℕ} {at end : ℕ} → Stored old new at (item 3 (take (value - key) (drop key s))) end → Stored old new at (text k) end
-  unfolding text encode
+  pub key-stored : {old new : List ℕ} {at end : ℕ} → Stored old new at (item 3 (take (value - key) (drop key s))) end → Stored old new at (textItem k) end
+  unfolding textItem encode
   key-stored w = stored-is (ap (item 3) (e .key)) w
 
   pub value-found : Finds s (some v) (found.At value)
@@ -45,7 +45,7 @@ expected-stored m w = stored-is (ap encode (expected-is m)) w
 -- ---- the item
 
 pub step-bytes : (step : Step)
-    → item 19 (((text (step .name) ++ text (step .id)) ++ (text (step .key) ++ encode (step .value))) ++ (encode (optional (step .timeout)) ++ (encode (bool (step .continue)) ++ encode (expected (step .expect)))))
+    → item 19 (((textItem (step .name) ++ textItem (step .id)) ++ (textItem (step .key) ++ encode (step .value))) ++ (encode (optional (step .timeout)) ++ (encode (bool (step .continue)) ++ encode (expected (step .expect)))))
     ≡ stepItem step
 unfolding stepItem stepParts joined
 step-bytes step = ap (item 19) (simp (append-assoc, append-nil))

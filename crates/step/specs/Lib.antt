@@ -1,1 +1,1 @@
-pub mod Agree
+pub mod Contract

@@ -8,11 +8,11 @@ ghost use lib.ListN.{length};
 ghost use Rattle.item.specs.Tree.{Yaml, Entries, bool, Ranged};
 ghost use Rattle.item.specs.Encode.{encode};
 ghost use Rattle.entries.specs.Entries.{Stands, Holds, Finds};
-ghost use Rattle.nodes.specs.Agree.{Stored, AgreesPart, PartNear};
+ghost use Rattle.nodes.specs.Contract.{Stored, AgreesPart, PartNear};
 ghost use Rattle.meaning.specs.Meaning.{Step};
-ghost use Rattle.meaning.specs.Record.{text, optional, expected, stepItem};
+ghost use Rattle.meaning.specs.Record.{textItem, optional, expected, stepItem};
 ghost use Rattle.meaning.specs.Meanings.{commands, isTrue, stepOf, stepAt};
-ghost use Rattle.step.specs.Agree.{StepStands, AgreesRead, ReadInside, AgreesExpect, AgreesFirst, FirstInside, AgreesCommand, CommandInside, AgreesAllowed};
+ghost use Rattle.step.specs.Contract.{StepStands, AgreesRead, ReadInside, AgreesExpect, AgreesFirst, FirstInside, AgreesCommand, CommandInside, AgreesAllowed};
 use entries::Pair;
 use entries::find;
 use entries::pair_at;
@@ -170,7 +170,8 @@ fn read_entries(s: &[u8], from: usize, to: usize, line: u32, number: u32) -> Ste
 pub fn read_step(s: &[u8], i: usize, line: u32, number: u32) -> StepRead
     requires { ⌜ length (now s) ≤ 1048576 ⌝ }
     ensures { λ r. ⌜ ReadInside (now (s .entry)) r ⌝ }
-    ensures step { λ r. ⌜ ((y : Yaml) → Ranged y → Stands (now (s .entry)) i (encode y) → AgreesRead (now (s .entry)) (stepAt line number y) r) ⌝ }
+    ensures step { λ r. ⌜ ((y : Yaml) → Ranged y → Stands (now (s .entry)) i (encode y)
+        → AgreesRead (now (s .entry)) (stepAt line number y) r) ⌝ }
 {
     let head = header_at(s, i);
     let Header::Item { kind, from, to } = head else {
@@ -217,7 +218,8 @@ fn put_flag(out: &mut [u8], at: usize, flag: bool) -> usize
 fn put_names(s: &[u8], places: StepPlaces, out: &mut [u8], at: usize) -> usize
     requires { ⌜ (length (now s) ≤ 1048576) × (at ≤ 2000000000000000) × (length (now out) ≤ 1048576) ⌝ }
     ensures { λ r. ⌜ ((at ≤ r) × (r ≤ at + 4194304) × (length (now (out .exit)) ≡ length (now (out .entry)))) ⌝ }
-    ensures names { λ r. ⌜ ((step : Step) → StepStands (now (s .entry)) step places → Stored (now (out .entry)) (now (out .exit)) at (text (step .name) ++ text (step .id)) r) ⌝ }
+    ensures names { λ r. ⌜ ((step : Step) → StepStands (now (s .entry)) step places
+        → Stored (now (out .entry)) (now (out .exit)) at (textItem (step .name) ++ textItem (step .id)) r) ⌝ }
 {
     let name = places.name;
     let id = places.id;
@@ -226,9 +228,11 @@ fn put_names(s: &[u8], places: StepPlaces, out: &mut [u8], at: usize) -> usize
 }
 
 fn put_command(s: &[u8], places: StepPlaces, out: &mut [u8], at: usize) -> usize
-    requires { ⌜ (length (now s) ≤ 1048576) × (places .key ≤ places .value) × (places .value ≤ length (now s)) × (at ≤ 2000000000000000) × (length (now out) ≤ 1048576) ⌝ }
+    requires { ⌜ (length (now s) ≤ 1048576) × (places .key ≤ places .value) × (places .value ≤ length (now s)) × (at ≤ 2000000000000000)
+        × (length (now out) ≤ 1048576) ⌝ }
     ensures { λ r. ⌜ ((at ≤ r) × (r ≤ at + 4194304) × (length (now (out .exit)) ≡ length (now (out .entry)))) ⌝ }
-    ensures command { λ r. ⌜ ((step : Step) → StepStands (now (s .entry)) step places → Stored (now (out .entry)) (now (out .exit)) at (text (step .key) ++ encode (step .value)) r) ⌝ }
+    ensures command { λ r. ⌜ ((step : Step) → StepStands (now (s .entry)) step places
+        → Stored (now (out .entry)) (now (out .exit)) at (textItem (step .key) ++ encode (step .value)) r) ⌝ }
 {
     let key = places.key;
     let value = places.value;
@@ -240,7 +244,9 @@ fn put_command(s: &[u8], places: StepPlaces, out: &mut [u8], at: usize) -> usize
 fn put_rest(s: &[u8], places: StepPlaces, out: &mut [u8], at: usize) -> usize
     requires { ⌜ (length (now s) ≤ 1048576) × (at ≤ 2000000000000000) × (length (now out) ≤ 1048576) ⌝ }
     ensures { λ r. ⌜ ((at ≤ r) × (r ≤ at + 6291456) × (length (now (out .exit)) ≡ length (now (out .entry)))) ⌝ }
-    ensures fields { λ r. ⌜ ((step : Step) → StepStands (now (s .entry)) step places → Stored (now (out .entry)) (now (out .exit)) at (encode (optional (step .timeout)) ++ (encode (bool (step .continue)) ++ encode (expected (step .expect)))) r) ⌝ }
+    ensures fields { λ r. ⌜ ((step : Step) → StepStands (now (s .entry)) step places
+        → Stored (now (out .entry)) (now (out .exit)) at
+        (encode (optional (step .timeout)) ++ (encode (bool (step .continue)) ++ encode (expected (step .expect)))) r) ⌝ }
 {
     let timeout = places.timeout;
     let continues = places.continues;
@@ -252,9 +258,11 @@ fn put_rest(s: &[u8], places: StepPlaces, out: &mut [u8], at: usize) -> usize
 
 // The item of the step whose parts stand at these places.
 fn put_step(s: &[u8], places: StepPlaces, out: &mut [u8], at: usize) -> usize
-    requires { ⌜ (length (now s) ≤ 1048576) × (places .key ≤ places .value) × (places .value ≤ length (now s)) × (at ≤ 1125899906842624) × (length (now out) ≤ 1048576) ⌝ }
+    requires { ⌜ (length (now s) ≤ 1048576) × (places .key ≤ places .value) × (places .value ≤ length (now s)) × (at ≤ 1125899906842624)
+        × (length (now out) ≤ 1048576) ⌝ }
     ensures { λ r. ⌜ ((at ≤ r) × (r ≤ at + 16777216) × (length (now (out .exit)) ≡ length (now (out .entry)))) ⌝ }
-    ensures step { λ r. ⌜ ((step : Step) → StepStands (now (s .entry)) step places → Stored (now (out .entry)) (now (out .exit)) at (stepItem step) r) ⌝ }
+    ensures step { λ r. ⌜ ((step : Step) → StepStands (now (s .entry)) step places
+        → Stored (now (out .entry)) (now (out .exit)) at (stepItem step) r) ⌝ }
 {
     let a = put_names(s, places, out, at + 6);
     let b = put_command(s, places, out, a);
@@ -267,7 +275,8 @@ fn put_step(s: &[u8], places: StepPlaces, out: &mut [u8], at: usize) -> usize
 pub fn step_at(s: &[u8], i: usize, line: u32, number: u32, out: &mut [u8], at: usize) -> Part
     requires { ⌜ (length (now s) ≤ 1048576) × (at ≤ 1125899906842624) × (length (now out) ≤ 1048576) ⌝ }
     ensures { λ r. ⌜ PartNear (now (out .entry)) (now (out .exit)) at 16777216 r ⌝ }
-    ensures step { λ r. ⌜ ((y : Yaml) → Ranged y → Stands (now (s .entry)) i (encode y) → AgreesPart (stepAt line number y) stepItem (now (out .entry)) (now (out .exit)) at r) ⌝ }
+    ensures step { λ r. ⌜ ((y : Yaml) → Ranged y → Stands (now (s .entry)) i (encode y)
+        → AgreesPart (stepAt line number y) stepItem (now (out .entry)) (now (out .exit)) at r) ⌝ }
 {
     match read_step(s, i, line, number) {
         StepRead::Step(places) => Part::Done(put_step(s, places, out, at)),

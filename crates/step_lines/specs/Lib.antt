@@ -1,3 +1,2 @@
 pub mod StepLines
-pub mod Agree
-pub mod Laws
+pub mod Contract

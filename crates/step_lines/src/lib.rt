@@ -5,7 +5,7 @@ ghost use lib.ListN.{drop};
 ghost use Rattle.lines.specs.Table.{tableLines, lineAt};
 ghost use Rattle.lines.specs.Ready.{Ready};
 ghost use Rattle.step_lines.specs.StepLines.{isSteps, behindSteps};
-ghost use Rattle.step_lines.specs.Agree.{Begins, Next};
+ghost use Rattle.step_lines.specs.Contract.{Begins, Next};
 use item::same_bytes;
 use lines::dash_at;
 use lines::entry_at;
@@ -38,7 +38,8 @@ fn is_steps(text: &[u8], table: &[u16], count: usize, i: usize) -> bool
 // The entry behind the first that is.
 fn behind_steps(text: &[u8], table: &[u16], count: usize) -> usize
     requires { ⌜ Ready (now text) (now table) count ⌝ }
-    ensures { λ r. ⌜ (drop r (tableLines (now (text .entry)) (now (table .entry)) count) ≡ behindSteps (tableLines (now (text .entry)) (now (table .entry)) count)) × (r ≤ count) ⌝ }
+    ensures { λ r. ⌜ (drop r (tableLines (now (text .entry)) (now (table .entry)) count)
+        ≡ behindSteps (tableLines (now (text .entry)) (now (table .entry)) count)) × (r ≤ count) ⌝ }
 {
     let mut i = 0;
     while i < count {

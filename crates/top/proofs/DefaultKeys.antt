@@ -12,11 +12,11 @@ use Rattle.item.specs.Tree.{Yaml, null, bool, int, str, seq, dict, Entries, pai
 use Rattle.item.specs.Encode.{head, encode, kindOf}
 use Rattle.item.specs.declared.Found.{Found}
 use Rattle.item.specs.declared.Found.the-variants.{At, Nothing}
-use Rattle.scalar.specs.Scalars.{text}
+use Rattle.scalar.specs.Scalars.{keyText}
 use Rattle.entries.specs.Entries.{Holds}
 use Rattle.entries.proofs.Values.{Mapped, entries-of}
 use Rattle.entries.proofs.Walking.{no-more, first-ranged, others-ranged, Turn}
-use Rattle.nodes.specs.Agree.{Stored, Reads}
+use Rattle.nodes.specs.Contract.{Stored, Reads}
 use Rattle.nodes.proofs.Storing.{stored-then, stored-is, stored-item}
 use Rattle.meaning.specs.Meaning as meaning
 use Rattle.meaning.specs.Record.{joined, optional, defaultsParts, defaultsItem}
@@ -24,7 +24,7 @@ use Rattle.meaning.specs.Meanings.{refuse, scalarDefault, defaultsFrom, noDefau
 use Rattle.top.specs.declared.Value.{Value}
 use Rattle.top.specs.declared.Default.{Default}
 use Rattle.top.specs.declared.Default.the-variants.{Timeout, WallBudget, Unknown}
-use Rattle.top.specs.Agree.{orNull, scalarOf, IsValue, defaultKey, IsDefaults}
+use Rattle.top.specs.Contract.{orNull, scalarOf, IsValue, defaultKey, IsDefaults}
 
 -- ---- the walk
 
@@ -60,8 +60,8 @@ by-key d k v es = go (same k (bytes "timeout")) (same k (bytes "wall_budget"))
     go false true = refl
     go false false = refl
 
-scalar-good : (v : Yaml) → kindOf v ≤ 3 → scalarDefault v ≡ good (text v)
-unfolding kindOf scalarDefault text
+scalar-good : (v : Yaml) → kindOf v ≤ 3 → scalarDefault v ≡ good (keyText v)
+unfolding kindOf scalarDefault keyText
 scalar-good null h = refl
 scalar-good (bool b) h = refl
 scalar-good (int z) h = refl
@@ -86,7 +86,7 @@ module _ {s : List ℕ} {to at start stop kind next : ℕ} {es : Entries} {timeo
       ∙ by-key (k .got) (t .entry .k) (t .entry .v) (t .entry .others)
       ∙ ap (λ (d : Default). byKey d (k .got) (t .entry .v) (t .entry .others)) (ap defaultKey (sym (t .key-is)) ∙ sym e)
 
-  this : Reads s scalarOf (At stop) (text (t .entry .v))
+  this : Reads s scalarOf (At stop) (keyText (t .entry .v))
   unfolding maybe
   this = record { value = some (t .entry .v); found = record { value = t .entry .v; is = refl; ranged = first-ranged (t .entry) (k .holds .ranged); stands = t .value }; is = refl }
 
@@ -108,7 +108,7 @@ module _ {s : List ℕ} {to at start stop kind next : ℕ} {es : Entries} {timeo
   pub timeout-on : Timeout ≡ defaultKey (take (stop - start) (drop start s)) → kind ≤ 3 → DefaultsRest s to next es (At stop) wallBudget
   unfolding byKey _>>=_
   timeout-on e h = record {
-    got = record { timeout = text (t .entry .v); wallBudget = k .got .wallBudget };
+    got = record { timeout = keyText (t .entry .v); wallBudget = k .got .wallBudget };
     rest = t .entry .others;
     holds = behind;
     is = here e ∙ rw (scalar-good (t .entry .v) (omega (arith, h, t .kind-is)));
@@ -119,7 +119,7 @@ module _ {s : List ℕ} {to at start stop kind next : ℕ} {es : Entries} {timeo
   pub wall-on : WallBudget ≡ defaultKey (take (stop - start) (drop start s)) → kind ≤ 3 → DefaultsRest s to next es timeout (At stop)
   unfolding byKey _>>=_
   wall-on e h = record {
-    got = record { timeout = k .got .timeout; wallBudget = text (t .entry .v) };
+    got = record { timeout = k .got .timeout; wallBudget = keyText (t .entry .v) };
     rest = t .entry .others;
     holds = behind;
     is = here e ∙ rw (scalar-good (t .entry .v) (omega (arith, h, t .kind-is)));

@@ -9,7 +9,7 @@ use Rattle.item.specs.Tree.{Entries}
 use Rattle.entries.specs.Entries.{Lies}
 use Rattle.entries.proofs.Walking.{no-more, Turn}
 use Rattle.meaning.specs.Meanings.{topKeys, knownKeys, refuse}
-use Rattle.top.specs.Agree.{KnownKeys}
+use Rattle.top.specs.Contract.{KnownKeys}
 
 -- what is left is known where all is
 pub record KnownRest (s : List ℕ) (to at : ℕ) (es : Entries) : Type 0 where

@@ -11,19 +11,19 @@ use Rattle.refusal.specs.Base.{good, refused, _>>=_, _>>_, maybe, given, ensure
 use Rattle.utf8.specs.Part.{part}
 use Rattle.item.specs.Tree.{Yaml, null, bool, int, str, seq, dict, Items, Entries, get, Ranged}
 use Rattle.item.specs.Encode.{item, encode, kindOf}
-use Rattle.item.specs.Size.{item-length}
+use Rattle.item.proofs.Size.{item-length}
 use Rattle.item.specs.declared.Found.the-variants.{At}
 use Rattle.entries.specs.Entries.{Stands, Holds, Finds}
 use Rattle.entries.proofs.Standing.{stands-part}
 use Rattle.entries.proofs.Values.{Mapped, entries-of}
-use Rattle.nodes.specs.Agree.{Stored, Near}
+use Rattle.nodes.specs.Contract.{Stored, Near}
 use Rattle.nodes.proofs.Storing.{stored-then, stored-is}
 use Rattle.meaning.specs.Meaning.{Defaults}
-use Rattle.meaning.specs.Record.{joined, text, tagsItem, defaultsItem, fields}
+use Rattle.meaning.specs.Record.{joined, textItem, tagsItem, defaultsItem, fields}
 use Rattle.meaning.specs.Meanings.{refuse, document, scalarAt, orEmpty, checkSchema, sequenceOr, textsOf, defaultsOf, Top, topOf, withSteps}
 use Rattle.top.specs.declared.Value.{Value}
 use Rattle.top.specs.declared.TopPlaces.{TopPlaces}
-use Rattle.top.specs.Agree.{orNull, scalarOf, textOf, ReadsTop, topFields, IsValue, KnownKeys, AgreesScalar, isSchema, Passed, IsSequence, IsDefaults}
+use Rattle.top.specs.Contract.{orNull, scalarOf, textOf, ReadsTop, topFields, IsValue, KnownKeys, AgreesScalar, isSchema, Passed, IsSequence, IsDefaults}
 use Rattle.top.proofs.Values.{schema-told}
 
 -- ---- 21 to 24
@@ -142,7 +142,7 @@ module _ (s : List ℕ) (from to : ℕ) {old new : List ℕ} {at end : ℕ} (w :
   unfolding encode
   sequence-stored ys h = stored-is (ap (item 4) (stands-part (h .lies .stands) (to - from) (omega (arith, h .lies .ends)))) w
 
-pub fields-stored : {o a b c d e f g : List ℕ} {at i j k l m n end : ℕ} (t : Top) → Stored o a at (text (t .name)) i → Stored a b i (text (t .description)) j → Stored b c j (tagsItem (t .tags)) k → Stored c d k (text (t .image)) l → Stored d e l (encode (t .setup)) m → Stored e f m (defaultsItem (t .defaults)) n → Stored f g n (encode (seq (t .failOn))) end → Stored o g at (joined (topFields t)) end
+pub fields-stored : {o a b c d e f g : List ℕ} {at i j k l m n end : ℕ} (t : Top) → Stored o a at (textItem (t .name)) i → Stored a b i (textItem (t .description)) j → Stored b c j (tagsItem (t .tags)) k → Stored c d k (textItem (t .image)) l → Stored d e l (encode (t .setup)) m → Stored e f m (defaultsItem (t .defaults)) n → Stored f g n (encode (seq (t .failOn))) end → Stored o g at (joined (topFields t)) end
 unfolding topFields withSteps fields joined
 fields-stored t name description tags image setup defaults failOn =
     stored-then _ _ name (stored-then _ _ description (stored-then _ _ tags (stored-then _ _ image (stored-then _ _ setup (stored-then _ _ defaults (stored-is (sym (append-nil _)) failOn))))))

@@ -12,13 +12,13 @@ use Rattle.entries.specs.Entries.{Stands, Holds}
 use Rattle.entries.proofs.Walking.{no-more-items, ItemTurn}
 use Rattle.nodes.specs.declared.Rendered.{Rendered}
 use Rattle.nodes.specs.declared.Rendered.the-variants.{Text, NoScalar}
-use Rattle.nodes.specs.Agree.{Stored, RendersAs}
+use Rattle.nodes.specs.Contract.{Stored, RendersAs}
 use Rattle.nodes.proofs.Storing.{stored-then, stored-nothing, stored-is, stored-item}
-use Rattle.meaning.specs.Record.{joined, text, tagsItem}
+use Rattle.meaning.specs.Record.{joined, textItem, tagsItem}
 use Rattle.meaning.specs.Meanings.{consText, textsOf}
 
 abbrev tagsOf : Items → List ℕ
-tagsOf ys = joined (map text (textsOf ys))
+tagsOf ys = joined (map textItem (textsOf ys))
 
 -- the tags before those that are left are stored
 pub record TagsRest (s : List ℕ) (to i : ℕ) (ys : Items) (old new : List ℕ) (start p : ℕ) : Type 0 where
@@ -31,26 +31,26 @@ pub record TagsRest (s : List ℕ) (to i : ℕ) (ys : Items) (old new : List ℕ
 pub tags-start : {s out : List ℕ} {to i start : ℕ} (ys : Items) → Holds s i to ys → TagsRest s to i ys out out start start
 tags-start ys h = record { rest = ys; front = []; holds = h; is = refl; stored = stored-nothing refl }
 
-text-tag : (y : Yaml) (ys : Items) {old new : List ℕ} {p e : ℕ} (t : Option (List ℕ)) → scalar.text y ≡ t → RendersAs t old new p (Text e) → (more : List ℕ) × (tagsOf (y ▸ ys) ≡ more ++ tagsOf ys) × Stored old new p more e
-unfolding textsOf consText joined text encode
+text-tag : (y : Yaml) (ys : Items) {old new : List ℕ} {p e : ℕ} (t : Option (List ℕ)) → scalar.keyText y ≡ t → RendersAs t old new p (Text e) → (more : List ℕ) × (tagsOf (y ▸ ys) ≡ more ++ tagsOf ys) × Stored old new p more e
+unfolding textsOf consText joined textItem encode
 text-tag y ys (some t) q h = (item 3 t, rw q, h)
 text-tag y ys none q h = absurd h
 
-no-tag : (y : Yaml) (ys : Items) (old new : List ℕ) (p : ℕ) (t : Option (List ℕ)) → scalar.text y ≡ t → RendersAs t old new p NoScalar → (tagsOf (y ▸ ys) ≡ tagsOf ys) × (new ≡ old)
+no-tag : (y : Yaml) (ys : Items) (old new : List ℕ) (p : ℕ) (t : Option (List ℕ)) → scalar.keyText y ≡ t → RendersAs t old new p NoScalar → (tagsOf (y ▸ ys) ≡ tagsOf ys) × (new ≡ old)
 unfolding textsOf consText
 no-tag y ys old new p (some t) q h = absurd h
 no-tag y ys old new p none q h = (rw q, h)
 
 module _ {s old mid : List ℕ} {to i start p next : ℕ} {ys : Items} (k : TagsRest s to i ys old mid start p) (t : ItemTurn s i to (k .rest) next) where
-  this : (new : List ℕ) {r r′ : Rendered} → r ≡ r′ → ((y : Yaml) → Ranged y → Stands s i (encode y) → RendersAs (scalar.text y) mid new p r) → RendersAs (scalar.text (t .item .y)) mid new p r′
-  this new e promise = subst (RendersAs (scalar.text (t .item .y)) mid new p) e (promise (t .item .y) (t .item .ranged) (t .item .value))
+  this : (new : List ℕ) {r r′ : Rendered} → r ≡ r′ → ((y : Yaml) → Ranged y → Stands s i (encode y) → RendersAs (scalar.keyText y) mid new p r) → RendersAs (scalar.keyText (t .item .y)) mid new p r′
+  this new e promise = subst (RendersAs (scalar.keyText (t .item .y)) mid new p) e (promise (t .item .y) (t .item .ranged) (t .item .value))
 
   left-is : tagsOf ys ≡ k .front ++ tagsOf (t .item .y ▸ t .item .others)
   left-is = k .is ∙ ap (λ (zs : Items). k .front ++ tagsOf zs) (t .item .is)
 
-  pub tag-on : {new : List ℕ} {r : Rendered} {e : ℕ} → r ≡ Text e → ((y : Yaml) → Ranged y → Stands s i (encode y) → RendersAs (scalar.text y) mid new p r) → TagsRest s to next ys old new start e
+  pub tag-on : {new : List ℕ} {r : Rendered} {e : ℕ} → r ≡ Text e → ((y : Yaml) → Ranged y → Stands s i (encode y) → RendersAs (scalar.keyText y) mid new p r) → TagsRest s to next ys old new start e
   tag-on {new} q promise =
-      let a = text-tag (t .item .y) (t .item .others) (scalar.text (t .item .y)) refl (this new q promise) in
+      let a = text-tag (t .item .y) (t .item .others) (scalar.keyText (t .item .y)) refl (this new q promise) in
       record {
         rest = t .item .others;
         front = k .front ++ a .0;
@@ -59,9 +59,9 @@ module _ {s old mid : List ℕ} {to i start p next : ℕ} {ys : Items} (k : Tags
         stored = stored-then (k .front) (a .0) (k .stored) (a .2);
       }
 
-  pub no-tag-on : {new : List ℕ} {r : Rendered} → r ≡ NoScalar → ((y : Yaml) → Ranged y → Stands s i (encode y) → RendersAs (scalar.text y) mid new p r) → TagsRest s to next ys old new start p
+  pub no-tag-on : {new : List ℕ} {r : Rendered} → r ≡ NoScalar → ((y : Yaml) → Ranged y → Stands s i (encode y) → RendersAs (scalar.keyText y) mid new p r) → TagsRest s to next ys old new start p
   no-tag-on {new} q promise =
-      let a = no-tag (t .item .y) (t .item .others) mid new p (scalar.text (t .item .y)) refl (this new q promise) in
+      let a = no-tag (t .item .y) (t .item .others) mid new p (scalar.keyText (t .item .y)) refl (this new q promise) in
       record {
         rest = t .item .others;
         front = k .front;

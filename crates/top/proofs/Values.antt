@@ -12,13 +12,13 @@ use borrow.Author.Tests.{ne-eqb, ltb-true}
 use Rattle.refusal.specs.Base.{good, refused, maybe, ensure, if_then_else_, bytes, same}
 use Rattle.item.specs.Tree.{Yaml, null, bool, int, str, seq, dict, end}
 use Rattle.item.specs.Encode.{encode, kindOf}
-use Rattle.scalar.specs.Scalars.{text, intText, boolText, decimalOf}
+use Rattle.scalar.specs.Scalars.{keyText, intText, boolText, decimalOf}
 use Rattle.entries.specs.Entries.{Stands, Holds, FoundAt, content}
 use Rattle.entries.proofs.Standing.{stands-part, Valued}
 use Rattle.entries.proofs.Values.{items-of}
 use Rattle.meaning.specs.Meanings.{schema, checkSchema, sequenceOr}
 use Rattle.top.specs.declared.Value.{Value}
-use Rattle.top.specs.Agree.{orNull, scalarOf, IsValue, AgreesScalar, isSchema, IsSequence}
+use Rattle.top.specs.Contract.{orNull, scalarOf, IsValue, AgreesScalar, isSchema, IsSequence}
 
 -- ---- what was looked for
 
@@ -32,8 +32,8 @@ absent-value s o e = rw e (record { ranged = tt; kind-is = refl; stands = record
 
 -- ---- a scalar
 
-text-there : (y : Yaml) → (kindOf y ≡ 0 → ⊥) → kindOf y ≤ 3 → (t : List ℕ) × (text y ≡ some t)
-unfolding kindOf text
+text-there : (y : Yaml) → (kindOf y ≡ 0 → ⊥) → kindOf y ≤ 3 → (t : List ℕ) × (keyText y ≡ some t)
+unfolding kindOf keyText
 text-there null h k = absurd (h refl)
 text-there (bool b) h k = (boolText b, refl)
 text-there (int z) h k = (intText z, refl)
@@ -41,8 +41,8 @@ text-there (str t) h k = (t, refl)
 text-there (seq ys) h k = absurd (omega arith)
 text-there (dict es) h k = absurd (omega arith)
 
-no-text : (y : Yaml) → ((kindOf y ≡ 0 → ⊥) → 3 < kindOf y) → text y ≡ none
-unfolding kindOf text
+no-text : (y : Yaml) → ((kindOf y ≡ 0 → ⊥) → 3 < kindOf y) → keyText y ≡ none
+unfolding kindOf keyText
 no-text null h = refl
 no-text (bool b) h = let k = h (λ e. omega arith) in absurd (omega arith)
 no-text (int z) h = let k = h (λ e. omega arith) in absurd (omega arith)
@@ -50,8 +50,8 @@ no-text (str t) h = let k = h (λ e. omega arith) in absurd (omega arith)
 no-text (seq ys) h = refl
 no-text (dict es) h = refl
 
-scalar-null : (o : Option Yaml) → scalarOf o ≡ text (orNull o)
-unfolding maybe text
+scalar-null : (o : Option Yaml) → scalarOf o ≡ keyText (orNull o)
+unfolding maybe keyText
 scalar-null none = refl
 scalar-null (some y) = refl
 
@@ -99,8 +99,8 @@ unfolding boolText same schema bytes
 bool-same true = refl
 bool-same false = refl
 
-other-schema : (y : Yaml) → (kindOf y ≡ 3 → ⊥) → false ≡ isSchema (text y)
-unfolding kindOf text isSchema maybe
+other-schema : (y : Yaml) → (kindOf y ≡ 3 → ⊥) → false ≡ isSchema (keyText y)
+unfolding kindOf keyText isSchema maybe
 other-schema null h = refl
 other-schema (bool b) h = bool-same b
 other-schema (int z) h = low-same (intText z) (low-int z)
@@ -108,8 +108,8 @@ other-schema (str t) h = absurd (h refl)
 other-schema (seq ys) h = refl
 other-schema (dict es) h = refl
 
-string-schema : (y : Yaml) → kindOf y ≡ 3 → same (content y) schema ≡ isSchema (text y)
-unfolding kindOf text isSchema maybe content
+string-schema : (y : Yaml) → kindOf y ≡ 3 → same (content y) schema ≡ isSchema (keyText y)
+unfolding kindOf keyText isSchema maybe content
 string-schema null h = absurd (omega arith)
 string-schema (bool b) h = absurd (omega arith)
 string-schema (int z) h = absurd (omega arith)

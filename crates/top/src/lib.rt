@@ -9,11 +9,11 @@ ghost use Rattle.item.specs.Tree.{Yaml, Items, Entries, Ranged};
 ghost use Rattle.item.specs.Encode as items;
 ghost use Rattle.item.specs.Encode.{encode};
 ghost use Rattle.entries.specs.Entries.{Stands, Holds, Finds};
-ghost use Rattle.nodes.specs.Agree.{Stored, Reads};
+ghost use Rattle.nodes.specs.Contract.{Stored, Reads};
 ghost use Rattle.meaning.specs.Meaning as meaning;
 ghost use Rattle.meaning.specs.Record.{joined, tagsItem, defaultsItem};
 ghost use Rattle.meaning.specs.Meanings.{Top, textsOf, noDefaults, defaultsFrom, defaultsOf, topOf};
-ghost use Rattle.top.specs.Agree.{orNull, scalarOf, TopStands, AgreesTop, RangeInside, PlacesInside, TopInside, topFields, IsValue, KnownKeys, AgreesScalar, isSchema, Passed, AgreesSequence, SequenceInside, defaultKey, AgreesDefaults, DefaultsInside};
+ghost use Rattle.top.specs.Contract.{orNull, scalarOf, TopStands, AgreesTop, RangeInside, PlacesInside, TopInside, topFields, IsValue, KnownKeys, AgreesScalar, isSchema, Passed, AgreesSequence, SequenceInside, defaultKey, AgreesDefaults, DefaultsInside};
 use entries::Pair;
 use entries::Span;
 use entries::find;
@@ -192,7 +192,8 @@ fn default_of(key: &[u8]) -> Default
 fn defaults_in(s: &[u8], from: usize, to: usize) -> Defaults
     requires { ⌜ (length (now s) ≤ 1048576) × (to ≤ length (now s)) ⌝ }
     ensures { λ r. ⌜ DefaultsInside (now (s .entry)) r ⌝ }
-    ensures defaults { λ r. ⌜ ((es : Entries) → Holds (now (s .entry)) from to es → AgreesDefaults (now (s .entry)) (defaultsFrom noDefaults es) r) ⌝ }
+    ensures defaults { λ r. ⌜ ((es : Entries) → Holds (now (s .entry)) from to es
+        → AgreesDefaults (now (s .entry)) (defaultsFrom noDefaults es) r) ⌝ }
 {
     let mut at = from;
     let mut timeout = Found::Nothing;
@@ -246,7 +247,8 @@ fn defaults_of(s: &[u8], found: Found) -> Defaults
 fn read_fields(s: &[u8], from: usize, to: usize) -> TopRead
     requires { ⌜ (length (now s) ≤ 1048576) × (to ≤ length (now s)) ⌝ }
     ensures { λ r. ⌜ TopInside (now (s .entry)) r ⌝ }
-    ensures fields { λ r. ⌜ ((y : Yaml) (es : Entries) → Passed y es → Holds (now (s .entry)) from to es → AgreesTop (now (s .entry)) (topOf y) r) ⌝ }
+    ensures fields { λ r. ⌜ ((y : Yaml) (es : Entries) → Passed y es → Holds (now (s .entry)) from to es
+        → AgreesTop (now (s .entry)) (topOf y) r) ⌝ }
 {
     let name = find(s, from, to, b"name");
     if !is_scalar(s, name) {
@@ -322,8 +324,10 @@ fn put_sequence(s: &[u8], range: Range, out: &mut [u8], at: usize) -> usize
 // The texts of a sequence's scalars.
 fn put_tags(s: &[u8], range: Range, out: &mut [u8], at: usize) -> usize
     requires { ⌜ RangeInside (now s) range × (length (now s) ≤ 1048576) × (at ≤ 1125899906842624) × (length (now out) ≤ 1048576) ⌝ }
-    ensures { λ r. ⌜ ((at ≤ r) × (r ≤ at + 6 + 2097152 * (range .to - range .from)) × (length (now (out .exit)) ≡ length (now (out .entry)))) ⌝ }
-    ensures tags { λ r. ⌜ ((ys : Items) → Holds (now (s .entry)) (range .from) (range .to) ys → Stored (now (out .entry)) (now (out .exit)) at (tagsItem (textsOf ys)) r) ⌝ }
+    ensures { λ r. ⌜ ((at ≤ r) × (r ≤ at + 6 + 2097152 * (range .to - range .from))
+        × (length (now (out .exit)) ≡ length (now (out .entry)))) ⌝ }
+    ensures tags { λ r. ⌜ ((ys : Items) → Holds (now (s .entry)) (range .from) (range .to) ys
+        → Stored (now (out .entry)) (now (out .exit)) at (tagsItem (textsOf ys)) r) ⌝ }
 {
     let mut i = range.from;
     let mut p = at + 6;
@@ -349,7 +353,9 @@ fn put_tags(s: &[u8], range: Range, out: &mut [u8], at: usize) -> usize
 fn put_defaults(s: &[u8], timeout: Found, wall_budget: Found, out: &mut [u8], at: usize) -> usize
     requires { ⌜ (length (now s) ≤ 1048576) × (at ≤ 1125899906842624) × (length (now out) ≤ 1048576) ⌝ }
     ensures { λ r. ⌜ ((at ≤ r) × (r ≤ at + 4194310) × (length (now (out .exit)) ≡ length (now (out .entry)))) ⌝ }
-    ensures defaults { λ r. ⌜ ((d : meaning.Defaults) → Reads (now (s .entry)) scalarOf timeout (d .timeout) → Reads (now (s .entry)) scalarOf «wall_budget» (d .wallBudget) → Stored (now (out .entry)) (now (out .exit)) at (defaultsItem d) r) ⌝ }
+    ensures defaults { λ r. ⌜ ((d : meaning.Defaults) → Reads (now (s .entry)) scalarOf timeout (d .timeout)
+        → Reads (now (s .entry)) scalarOf «wall_budget» (d .wallBudget)
+        → Stored (now (out .entry)) (now (out .exit)) at (defaultsItem d) r) ⌝ }
 {
     let middle = put_optional(s, timeout, out, at + 6);
     let end = put_optional(s, wall_budget, out, middle);
@@ -361,7 +367,8 @@ fn put_defaults(s: &[u8], timeout: Found, wall_budget: Found, out: &mut [u8], at
 pub fn put_top(s: &[u8], top: TopPlaces, out: &mut [u8], at: usize) -> usize
     requires { ⌜ (length (now s) ≤ 1048576) × PlacesInside (now s) top × (at ≤ 70368744177664) × (length (now out) ≤ 1048576) ⌝ }
     ensures { λ r. ⌜ ((at ≤ r) × (r ≤ at + 4398046511104) × (length (now (out .exit)) ≡ length (now (out .entry)))) ⌝ }
-    ensures fields { λ r. ⌜ ((t : Top) → TopStands (now (s .entry)) t top → Stored (now (out .entry)) (now (out .exit)) at (joined (topFields t)) r) ⌝ }
+    ensures fields { λ r. ⌜ ((t : Top) → TopStands (now (s .entry)) t top
+        → Stored (now (out .entry)) (now (out .exit)) at (joined (topFields t)) r) ⌝ }
 {
     let name = top.name;
     let description = top.description;

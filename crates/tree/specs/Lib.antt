@@ -1,14 +1,2 @@
 pub mod Tree
-pub mod Agree
-pub mod Reading
-pub mod Sums
-pub mod Levels
-pub mod Keys
-pub mod Strings
-pub mod Integers
-pub mod Parts
-pub mod Fit
-pub mod FlowFit
-pub mod BlockFit
-pub mod Sound
-pub mod Job
+pub mod Contract

@@ -9,6 +9,9 @@ use Rattle.item.specs.Tree.{Yaml}
 use Rattle.item.specs.Encode.{encode}
 use Rattle.lines.specs.Lines.{Line, significantLines}
 use Rattle.block.specs.Block.{block}
+use Rattle.refusal.specs.Told.{refusal}
+use Rattle.tree.specs.declared.TreeAnswer.{TreeAnswer}
+use Rattle.tree.specs.declared.TreeAnswer.the-variants.{Read, Refused}
 
 -- 1, 2
 unfoldable pub admitted : List ℕ → Answer (Unit {0})
@@ -35,6 +38,23 @@ tree work text = do
   ls ← significantLines text
   treeOf (min work 1048576) ls
 
+-- ---- what is told and left
+
+-- what the code's answer says: the bytes of the tree, or the refusal
+abbrev pub answerOf : TreeAnswer → Answer ℕ
+answerOf (Read n) = good n
+answerOf (Refused e) = refusal e
+
+-- what it should say
+unfoldable pub sizeOf : Answer Yaml → Answer ℕ
+sizeOf (good y) = good (length (encode y))
+sizeOf (refused k l s) = refused k l s
+
+-- what is left in the work bytes: the tree, and behind it what was there; or zeros
+unfoldable pub left : Answer Yaml → List ℕ → List ℕ
+left (good y) old = encode y ++ drop (length (encode y)) old
+left (refused k l s) old = replicate (length old) 0
+
 unfoldable pub Tree-open : Unit {0}
-unfolding admitted nothingLeft treeOf tree
+unfolding admitted nothingLeft treeOf tree sizeOf left
 Tree-open = tt

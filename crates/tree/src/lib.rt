@@ -5,7 +5,8 @@ ghost use lib.ListN.{length};
 ghost use Rattle.lines.specs.Table.{tableLines};
 ghost use Rattle.lines.specs.Ready.{Ready};
 ghost use Rattle.tree.specs.Tree as definition;
-ghost use Rattle.tree.specs.Agree.{AgreesTree, AgreesRead, answerOf, sizeOf, left};
+ghost use Rattle.tree.specs.Contract.{AgreesTree, AgreesRead};
+ghost use Rattle.tree.specs.Tree.{answerOf, sizeOf, left};
 use block::block;
 use item::zero_bytes;
 use lines::LinesAnswer;
@@ -40,7 +41,8 @@ fn counted(len: usize) -> usize
 // The value of all lines.
 fn tree_of(text: &[u8], table: &[u16], count: usize, out: &mut [u8]) -> TreeAnswer
     requires { ⌜ Ready (now text) (now table) count × (length (now out) ≤ 1048576) ⌝ }
-    ensures { λ r. ⌜ AgreesTree (definition.treeOf (length (now (out .entry))) (tableLines (now (text .entry)) (now (table .entry)) count)) (now (out .entry)) (now (out .exit)) r ⌝ }
+    ensures { λ r. ⌜ AgreesTree (definition.treeOf (length (now (out .entry)))
+        (tableLines (now (text .entry)) (now (table .entry)) count)) (now (out .entry)) (now (out .exit)) r ⌝ }
 {
     match block(text, table, count, 0, 32, out, 0) {
         BlockRead::Refused(e) => TreeAnswer::Refused(e),
@@ -57,7 +59,8 @@ fn tree_of(text: &[u8], table: &[u16], count: usize, out: &mut [u8]) -> TreeAnsw
 // The tree of a text, and the table of its lines.
 pub fn read_with(text: &[u8], table: &mut [u16; 8192], out: &mut [u8]) -> TreeRead
     requires { ⌜ length (now out) ≤ 1048576 ⌝ }
-    ensures { λ r. ⌜ AgreesRead (definition.tree (length (now (out .entry))) (now (text .entry))) (now (text .entry)) (now (table .exit)) (now (out .entry)) (now (out .exit)) r ⌝ }
+    ensures { λ r. ⌜ AgreesRead (definition.tree (length (now (out .entry))) (now (text .entry))) (now (text .entry)) (now (table .exit))
+        (now (out .entry)) (now (out .exit)) r ⌝ }
 {
     if text.len() > 65535 {
         return TreeRead::Refused(Refusal::TextTooLong);
@@ -77,7 +80,8 @@ pub fn read_with(text: &[u8], table: &mut [u16; 8192], out: &mut [u8]) -> TreeRe
 // The tree of a text, written from the front of `work`; a refusal leaves zeros in all of it.
 pub fn read_tree(text: &[u8], work: &mut [u8]) -> TreeAnswer
     ensures answer { λ r. ⌜ answerOf r ≡ sizeOf (definition.tree (length (now (work .entry))) (now (text .entry))) ⌝ }
-    ensures bytes { λ r. ⌜ now (work .exit) ≡ left (definition.tree (length (now (work .entry))) (now (text .entry))) (now (work .entry)) ⌝ }
+    ensures bytes { λ r. ⌜ now (work .exit) ≡ left (definition.tree (length (now (work .entry))) (now (text .entry)))
+        (now (work .entry)) ⌝ }
 {
     let mut table = [0u16; 8192];
     let n = counted(work.len());

@@ -1,2 +1,10 @@
-mod Rows
-mod Turns
+pub mod Rows
+pub mod Turns
+pub mod Examples
+pub mod Laws
+pub mod Ranges
+pub mod TableLaws
+pub mod TrimLaws
+pub mod Utf8Laws
+pub mod Utf8Points
+pub mod WhitePoints

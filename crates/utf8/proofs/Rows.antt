@@ -12,9 +12,9 @@ use lib.Seq.{drop-cons}
 use borrow.Author.Tests.{leb-true, leb-false}
 use Rattle.refusal.specs.Base.{maybe}
 use Rattle.utf8.specs.Utf8.{Range, _‥_, tail, table, tailsOf, utf8From}
-use Rattle.utf8.specs.Ranges.{inside, below, above}
-use Rattle.utf8.specs.TableLaws.{in-row, no-row, past-rows}
-use Rattle.utf8.specs.Steps.{dueOf, onOf, goesOn, Follows}
+use Rattle.utf8.proofs.Ranges.{inside, below, above}
+use Rattle.utf8.proofs.TableLaws.{in-row, no-row, past-rows}
+use Rattle.utf8.specs.Contract.{dueOf, onOf, goesOn, Follows}
 use Rattle.utf8.specs.declared.Step.{Step}
 use Rattle.utf8.specs.declared.Step.the-variants.{Bad}
 

@@ -9,8 +9,8 @@ use lib.ListN.{length, getD}
 use Rattle.refusal.specs.Base.{if_then_else_, maybe}
 use Rattle.utf8.specs.White.{white1, white2, white3, whiteAt, whiteLen, leading, trimEnd}
 use Rattle.utf8.specs.Part.{part}
-use Rattle.utf8.specs.Steps.{Ends}
-use Rattle.utf8.specs.Laws.{part-empty, part-cons, part-length, part-drop, part-append, white-most, leading-none, leading-on, end-white, end-none}
+use Rattle.utf8.specs.Contract.{Ends}
+use Rattle.utf8.proofs.Laws.{part-empty, part-cons, part-length, part-drop, part-append, white-most, leading-none, leading-on, end-white, end-none}
 
 module _ (s : List ℕ) (at to : ℕ) (k : to ≤ length s) where
   one-more : at < to → part s at to ≡ getD s at 0 ∷ part s (at + 1) to

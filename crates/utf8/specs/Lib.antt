@@ -2,12 +2,4 @@ pub mod Utf8
 pub mod White
 pub mod Part
 pub mod Points
-pub mod Steps
-pub mod Ranges
-pub mod TableLaws
-pub mod Laws
-pub mod TrimLaws
-pub mod Utf8Laws
-pub mod Utf8Points
-pub mod WhitePoints
-pub mod Examples
+pub mod Contract

@@ -7,7 +7,7 @@ ghost use lib.ListN.{length};
 ghost use Rattle.utf8.specs.Utf8.{isUtf8};
 ghost use Rattle.utf8.specs.White.{white1, white2, white3, in2000, whiteLen, leading, trimEnd, trim};
 ghost use Rattle.utf8.specs.Part.{part};
-ghost use Rattle.utf8.specs.Steps.{dueOf, onOf, Follows, Ends};
+ghost use Rattle.utf8.specs.Contract.{dueOf, onOf, Follows, Ends};
 
 // What must still come of a character: how many bytes, and where the next of them lies. Those behind it may be any tail.
 struct Due {

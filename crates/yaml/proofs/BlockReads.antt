@@ -6,9 +6,9 @@ use mathlib.Core.Option.{none, some}
 use Rattle.refusal.specs.Base.{good, maybe}
 use Rattle.item.specs.Tree.{many, keyed, Yaml, Items, Entries, hasKey, levels}
 use Rattle.item.specs.Tree as Tree
-use Rattle.item.specs.Size.{size}
+use Rattle.item.proofs.Size.{size}
 use Rattle.lines.specs.Lines.{Line}
-use Rattle.scalar.specs.Scalars.{text}
+use Rattle.scalar.specs.Scalars.{keyText}
 use Rattle.block.specs.Block.{block}
 use Rattle.yaml.specs.Represent.{Graph, Rep, asYaml, _▸_}
 use Rattle.yaml.specs.Rows.{Row}
@@ -75,7 +75,7 @@ module _ (cap : ℕ) where
         (map-more cap n num xs ys rest (h .key) (h .value) (h .rest) j (g .0) (reads-entry d (k .0) (h .tree) (h .key) (h .value) (h .key-is) (h .text-is) (h .value-is) num)
         (reads-pairs ds (k .1) (h .rest) (h .rest-is) (j .place num) rest b)))
 
-    reads-entry : {n : ℕ} {rs : List Row} {a v : Rep} (d : Entry n rs a v) → keptEntry d → (x : Yaml) (key : List ℕ) (y : Yaml) → asYaml a ≡ some x → text x ≡ some key → asYaml v ≡ some y
+    reads-entry : {n : ℕ} {rs : List Row} {a v : Rep} (d : Entry n rs a v) → keptEntry d → (x : Yaml) (key : List ℕ) (y : Yaml) → asYaml a ≡ some x → keyText x ≡ some key → asYaml v ≡ some y
         → (num : ℕ) → EntryOf cap n num rs key y
     reads-entry (e-flow {n = n} {cs = cs} {s = s} {w = w} {b = b} u q v d h c e) k x key y f g i num =
         subst (λ (z : List Row). EntryOf cap n num z key y) (sym e) (entry-flow cap n num s u w b cs key v d (k .2) y i (key-of cap q (k .0) x key f g) (k .1) c)

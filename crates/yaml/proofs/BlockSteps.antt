@@ -12,12 +12,12 @@ use borrow.Author.Tests.{eq-eqb, ne-eqb, le-leb}
 use Rattle.refusal.specs.Base.{good, _>>=_, _>>_, if_then_else_, ensure, given, maybe, ch, bytes, same, empty}
 use Rattle.utf8.specs.Utf8 as U
 use Rattle.utf8.specs.White.{white1, white2, whiteAt, leadingFrom, leading, trimStart, allWhite, trimEnd, trim}
-use Rattle.utf8.specs.Laws.{trim-nil}
+use Rattle.utf8.proofs.Laws.{trim-nil}
 use Rattle.item.specs.Tree.{Yaml, Items, Entries, end, _▸_, _◂_, done, pair, add, hasKey, levels}
 use Rattle.item.specs.Tree as Tree
-use Rattle.item.specs.Size.{size}
+use Rattle.item.proofs.Size.{size}
 use Rattle.lines.specs.Lines.{Line, line}
-use Rattle.scalar.specs.Scalars.{text}
+use Rattle.scalar.specs.Scalars.{keyText}
 use Rattle.scalar.specs.Key.{keyEnd, keyEndFrom}
 use Rattle.scalar.specs.Read.{cost, charge}
 use Rattle.scalar.specs.declared.Role.the-variants.{AsValue, AsKey}
@@ -26,8 +26,8 @@ use Rattle.yaml.specs.Scalars.{flow-out}
 use Rattle.literal.specs.Literal.{leaf, literal}
 use Rattle.lines.specs.Dash.{dashed}
 use Rattle.block.specs.Block.{keyAt, startsComplex, lineValue, child, blockKey, valueBehind, entryAt, mapTurn, mapLines, entriesOf, blockMap, inlineMap, itemBehind, seqTurn, seqLines, itemsOf, blockSeq, within, block}
-use Rattle.block.specs.Parts.{opens-dash, opens-key, opens-flow}
-use Rattle.block.specs.Steps.{within-levels, block-line, block-sequence, block-mapping, child-end, child-deeper, child-none, entry-whole, charged, item-child, item-line, item-inline}
+use Rattle.block.proofs.Parts.{opens-dash, opens-key, opens-flow}
+use Rattle.block.proofs.Cases.{within-levels, block-line, block-sequence, block-mapping, child-end, child-deeper, child-none, entry-whole, charged, item-child, item-line, item-inline}
 use Rattle.yaml.specs.Characters.{whites, spaces}
 use Rattle.yaml.specs.Represent.{Rep, asYaml}
 use Rattle.yaml.specs.Flow.{Flow}
@@ -149,7 +149,7 @@ module _ (cap : ℕ) where
 
   -- ---- keys
 
-  key-at : (l n sum b : ℕ) (t : List ℕ) (y : Yaml) (k : List ℕ) (s : ℕ) → eqb b 63 ≡ false → eqb b 38 ≡ false → eqb b 42 ≡ false → flow cap n l AsKey sum (b ∷ t) ≡ good (y, s) → text y ≡ some k
+  key-at : (l n sum b : ℕ) (t : List ℕ) (y : Yaml) (k : List ℕ) (s : ℕ) → eqb b 63 ≡ false → eqb b 38 ≡ false → eqb b 42 ≡ false → flow cap n l AsKey sum (b ∷ t) ≡ good (y, s) → keyText y ≡ some k
       → blockKey cap l n sum (b ∷ t) ≡ good (k, s)
   unfolding blockKey ensure given empty startsComplex _>>=_ _>>_
   key-at l n sum b t y k s e₁ e₂ e₃ e₄ e₅ = rw (e₁, e₂, e₃, e₄, e₅)
@@ -159,7 +159,7 @@ module _ (cap : ℕ) where
     pub no-dash : (u : List ℕ) → dashed (s ++ (ch ":" ∷ u)) ≡ false
     pub reads : (l n sum : ℕ) → sum + (6 + length k) ≤ cap → blockKey cap l n sum (trim s) ≡ good (k, sum + (6 + length k))
 
-  pub key-of : {s : List ℕ} {a : Rep} (d : Key s a) → keptKey d → (y : Yaml) (k : List ℕ) → asYaml a ≡ some y → text y ≡ some k → KeyOf s k
+  pub key-of : {s : List ℕ} {a : Rep} (d : Key s a) → keptKey d → (y : Yaml) (k : List ℕ) → asYaml a ≡ some y → keyText y ≡ some k → KeyOf s k
   unfolding keptKey
   key-of (key {s = s} {t = t} x d w e h) (p, q) y k f g = subst (λ (z : List ℕ). KeyOf z k) (sym e) (record {
     start = λ u. key-start d p x u w;

@@ -11,11 +11,11 @@ use lib.IntN.{ℤ, pos, negℤ}
 use borrow.Author.Tests.{eqb-true, eqb-false, le-leb, lt-leb, leb-true, ltb-true}
 use Rattle.refusal.specs.Base.{if_then_else_, ch, bytes, same, oneOf, empty}
 use Rattle.utf8.specs.Utf8.{Range, _‥_, within}
-use Rattle.utf8.specs.Ranges.{if-both}
+use Rattle.utf8.proofs.Ranges.{if-both}
 use Rattle.utf8.specs.Points.{inAny}
 use Rattle.item.specs.Tree.{Yaml}
 use Rattle.item.specs.Tree as Tree
-use Rattle.item.specs.Same.{same-eq}
+use Rattle.item.proofs.Same.{same-eq}
 use Rattle.scalar.specs.Scalars.{isDigit, allDigits, decimalFrom, digits, positive, negative, integer, nulls, trues, falses, intOr, scalarOf}
 use Rattle.yaml.specs.Represent.{Rep, asYaml, fits64}
 use Rattle.yaml.specs.Core.{Regex, never, some-of, _·_, _∣_, star, nullable, behind, matches, byte, word, plus, digit, sign, nullText, trueText, falseText, decimalText, octalText, hexText, floatText, digitOf, number, signed, Core, to-null, to-true, to-false, to-decimal, to-octal, to-hex, to-float, to-str}

@@ -11,13 +11,13 @@ use borrow.Author.Tests.{le-leb}
 use Rattle.refusal.specs.Base.{good, _>>=_, _>>_, if_then_else_, ensure, maybe, bytes, empty}
 use Rattle.utf8.specs.White.{trim}
 use Rattle.item.specs.Tree.{many, keyed, Yaml, null, seq, dict, Items, end, _▸_, _◂_, Entries, done, pair, add, hasKey, levels}
-use Rattle.item.specs.Size.{size}
-use Rattle.scalar.specs.Scalars.{text, scalarOf}
+use Rattle.item.proofs.Size.{size}
+use Rattle.scalar.specs.Scalars.{keyText, scalarOf}
 use Rattle.scalar.specs.declared.Role.{Role}
 use Rattle.scalar.specs.declared.Role.the-variants.{AsValue, AsKey}
 use Rattle.scalar.specs.Read.{charge, skipSpaces}
 use Rattle.flow.specs.Flow.{node, value, flowSeq, flowMap, items, entries, flow}
-use Rattle.flow.specs.Sums.{weight}
+use Rattle.flow.proofs.Sums.{weight}
 use Rattle.yaml.specs.Characters.{among, spaces}
 use Rattle.yaml.specs.Scalars.{Context, flow-out, flow-in, Plain}
 use Rattle.yaml.specs.Scalars as Sc
@@ -168,7 +168,7 @@ module _ (cap n : ℕ) where
       ∙ rw (add-more got j y es) (ap (λ (s : ℕ). good (got ⋈ (pair j y es), s, r)) (omega arith)))
 
   -- a key and a value, by what may stand behind the key; and a key alone
-  pair-of : (a m : ℕ) (t u k : List ℕ) (y v : Yaml) → Head t → Head u → text y ≡ some k → ((r : List ℕ) → Behind flow-in t (spaces a ++ (58 ∷ (spaces m ++ r)))) → NodeTo cap n flow-in t y → NodeTo cap n flow-in u v
+  pair-of : (a m : ℕ) (t u k : List ℕ) (y v : Yaml) → Head t → Head u → keyText y ≡ some k → ((r : List ℕ) → Behind flow-in t (spaces a ++ (58 ∷ (spaces m ++ r)))) → NodeTo cap n flow-in t y → NodeTo cap n flow-in u v
       → EntryTo (t ++ (spaces a ++ (58 ∷ (spaces m ++ u)))) k v
   pair-of a m t u k y v hd hu e b ih ih′ l sum r g c f =
       let w : weight AsKey y ≡ 6 + length k = key-size y k e in
@@ -176,7 +176,7 @@ module _ (cap n : ℕ) where
       pair-value cap n l sum t u r k y v a m hd e (ih l AsKey sum (spaces a ++ (58 ∷ (spaces m ++ (u ++ r)))) (omega arith) (omega arith) (b (u ++ r))) hu
       (ih′ l AsValue (sum + weight AsKey y) r g (omega arith) (inside refl (f .follows)))
 
-  pair-alone : (a : ℕ) (t k : List ℕ) (y : Yaml) → Head t → text y ≡ some k → NodeTo cap n flow-in t y → EntryTo (t ++ (spaces a ++ (58 ∷ []))) k null
+  pair-alone : (a : ℕ) (t k : List ℕ) (y : Yaml) → Head t → keyText y ≡ some k → NodeTo cap n flow-in t y → EntryTo (t ++ (spaces a ++ (58 ∷ []))) k null
   pair-alone a t k y hd e ih l sum r g c f =
       let w : weight AsKey y ≡ 6 + length k = key-size y k e in
       let z : levels y ≡ 0 = scalar-levels y k e in
@@ -220,7 +220,7 @@ module _ (cap n : ℕ) where
         subst (EntriesTo s) (g .1)
         (rw q (more-entries m j t u (h .key) (h .value) (h .rest) (pair-long d) (reads-pair d (k .0) (h .tree) (h .key) (h .value) (h .key-is) (h .text-is) (h .value-is)) (g .0) (reads-entries ds (k .1) (h .rest) (h .rest-is))))
 
-    reads-pair : {t : List ℕ} {a v : Rep} (d : FlowPair t a v) → keptPair d → (x : Yaml) (key : List ℕ) (y : Yaml) → asYaml a ≡ some x → text x ≡ some key → asYaml v ≡ some y → EntryTo t key y
+    reads-pair : {t : List ℕ} {a v : Rep} (d : FlowPair t a v) → keptPair d → (x : Yaml) (key : List ℕ) (y : Yaml) → asYaml a ≡ some x → keyText x ≡ some key → asYaml v ≡ some y → EntryTo t key y
     reads-pair (p-value {t = t} {u = u} a m d f q) k x key y e h g =
         rw q (pair-of a (suc m) t u key x y (head-of d) (head-of f) h (λ r. inside refl (follows-colon a m r)) (reads d (k .0) x e) (reads f (k .1) y g))
     reads-pair (p-adjacent {t = t} {u = u} a d j f q) k x key y e h g =

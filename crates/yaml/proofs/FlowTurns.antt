@@ -11,15 +11,15 @@ use lib.ListN.{length}
 use borrow.Author.Tests.{le-leb}
 use Rattle.refusal.specs.Base.{good, _>>=_, _>>_, if_then_else_, ensure, given, bytes}
 use Rattle.utf8.specs.White.{trim}
-use Rattle.utf8.specs.TrimLaws.{trim-spaces}
+use Rattle.utf8.proofs.TrimLaws.{trim-spaces}
 use Rattle.item.specs.Tree.{Yaml, null, str, Items, _◂_, noItem, Entries, add, noEntry, hasKey, levels}
-use Rattle.item.specs.Size.{size}
-use Rattle.scalar.specs.Scalars.{text, scalarOf}
+use Rattle.item.proofs.Size.{size}
+use Rattle.scalar.specs.Scalars.{keyText, scalarOf}
 use Rattle.scalar.specs.declared.Role.{Role}
 use Rattle.scalar.specs.declared.Role.the-variants.{AsValue, AsKey}
 use Rattle.scalar.specs.Read.{Reader, charge, scalar, plainText, endsItem, endsColon, stopsPlain, onto, plain, string, skipSpaces}
 use Rattle.flow.specs.Flow.{stuck, node, value, items, itemTurn, entries, entryTurn, entryValue, behindColon, fresh}
-use Rattle.flow.specs.Sums.{weight, cost-scalar, isScalar, scalarOf-scalar}
+use Rattle.flow.proofs.Sums.{weight, cost-scalar, isScalar, scalarOf-scalar}
 use Rattle.yaml.specs.Characters.{among, spaces}
 use Rattle.yaml.specs.Scalars.{Context, flow-in, Plain}
 use Rattle.yaml.specs.Scalars as Sc
@@ -267,7 +267,7 @@ module _ (cap n : ℕ) where
     pub skip : skipSpaces left ≡ skipSpaces r
 
   pair-at : (l u : ℕ) (got : Entries) (sum b : ℕ) (t : List ℕ) (y v : Yaml) (k x₁ x₂ x₃ : List ℕ) (s₁ s₂ : ℕ) {t′ : List ℕ} → Begins b t′
-      → value cap n l true AsKey sum (b ∷ t) ≡ good (y, s₁, x₁) → text y ≡ some k → behindColon cap n (skipSpaces x₁) ≡ good x₂
+      → value cap n l true AsKey sum (b ∷ t) ≡ good (y, s₁, x₁) → keyText y ≡ some k → behindColon cap n (skipSpaces x₁) ≡ good x₂
       → entryValue cap n (inner l) s₁ (skipSpaces x₂) ≡ good (v, s₂, x₃) → hasKey k got ≡ false
       → entries cap n (inner l) (suc u) got sum (b ∷ t) ≡ entries cap n (inner l) u (add got k v) s₂ x₃
   unfolding entries entryTurn if_then_else_ _>>=_ _>>_ given fresh ensure
@@ -301,14 +301,14 @@ module _ (cap n : ℕ) where
       (scalar-good AsValue sum null _ tt h)
 
   pair-head : (l u : ℕ) (got : Entries) (sum : ℕ) (t r : List ℕ) (y v : Yaml) (k x₁ x₂ x₃ : List ℕ) (s₁ s₂ : ℕ) → Head t
-      → value cap n l true AsKey sum (t ++ r) ≡ good (y, s₁, x₁) → text y ≡ some k → behindColon cap n (skipSpaces x₁) ≡ good x₂
+      → value cap n l true AsKey sum (t ++ r) ≡ good (y, s₁, x₁) → keyText y ≡ some k → behindColon cap n (skipSpaces x₁) ≡ good x₂
       → entryValue cap n (inner l) s₁ (skipSpaces x₂) ≡ good (v, s₂, x₃) → hasKey k got ≡ false
       → entries cap n (inner l) (suc u) got sum (t ++ r) ≡ entries cap n (inner l) u (add got k v) s₂ x₃
   pair-head l u got sum t r y v k x₁ x₂ x₃ s₁ s₂ hd e₁ e₂ e₃ e₄ e₅ =
       subst (λ (z : List ℕ). value cap n l true AsKey sum (z ++ r) ≡ good (y, s₁, x₁) → entries cap n (inner l) (suc u) got sum (z ++ r) ≡ entries cap n (inner l) u (add got k v) s₂ x₃)
       (sym (hd .is)) (λ q. pair-at l u got sum (hd .byte) (hd .rest ++ r) y v k x₁ x₂ x₃ s₁ s₂ (hd .ok) q e₂ e₃ e₄ e₅) e₁
 
-  pub pair-value : (l sum : ℕ) (t u r k : List ℕ) (y v : Yaml) (a m : ℕ) → Head t → text y ≡ some k → ReadsTo l AsKey sum t (spaces a ++ (58 ∷ (spaces m ++ (u ++ r)))) y
+  pub pair-value : (l sum : ℕ) (t u r k : List ℕ) (y v : Yaml) (a m : ℕ) → Head t → keyText y ≡ some k → ReadsTo l AsKey sum t (spaces a ++ (58 ∷ (spaces m ++ (u ++ r)))) y
       → Head u → ReadsTo l AsValue (sum + weight AsKey y) u r v → PairTo l sum (t ++ (spaces a ++ (58 ∷ (spaces m ++ u)))) r k v
   pair-value l sum t u r k y v a m hd e w hu x = record {
     left = x .left;
@@ -320,7 +320,7 @@ module _ (cap n : ℕ) where
     skip = x .skip;
   }
 
-  pub pair-null : (l sum : ℕ) (t r k : List ℕ) (y : Yaml) (a : ℕ) → Head t → text y ≡ some k → ReadsTo l AsKey sum t (spaces a ++ (58 ∷ r)) y
+  pub pair-null : (l sum : ℕ) (t r k : List ℕ) (y : Yaml) (a : ℕ) → Head t → keyText y ≡ some k → ReadsTo l AsKey sum t (spaces a ++ (58 ∷ r)) y
       → (f : Ends r) → sum + weight AsKey y + 6 ≤ cap → PairTo l sum (t ++ (spaces a ++ (58 ∷ []))) r k null
   pair-null l sum t r k y a hd e w f h = record {
     left = f .follows .byte ∷ f .follows .rest;

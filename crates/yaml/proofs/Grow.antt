@@ -5,7 +5,7 @@ use mathlib.Core.List.{List}
 use mathlib.Core.Bool.{false, false≢true}
 use Rattle.refusal.specs.Base.{same}
 use Rattle.item.specs.Tree.{Yaml, Items, end, _▸_, _◂_, noItem, Entries, done, pair, add, noEntry, hasKey}
-use Rattle.item.specs.Same.{same-refl, same-ne}
+use Rattle.item.proofs.Same.{same-refl, same-ne}
 use Rattle.yaml.proofs.Tests.{neither}
 
 -- ---- entries

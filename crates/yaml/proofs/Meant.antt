@@ -7,7 +7,7 @@ use lib.ListN.{length, drop}
 use borrow.Author.Tests.{le-leb}
 use mathlib.Core.Bool.{Bool, true, false, not}
 use Rattle.refusal.specs.Base.{Answer, good, _>>=_, _>>_, ensure, if_then_else_, oneOf}
-use Rattle.refusal.specs.Tools.{refused≢good, bound}
+use Rattle.refusal.proofs.Tools.{refused≢good, bound}
 use Rattle.item.specs.Tree.{Yaml, Items, end, _▸_, Entries}
 use Rattle.item.specs.Tree as Tree
 use Rattle.meaning.specs.Meaning.{Meaning, builtInSteps}
@@ -15,7 +15,7 @@ use Rattle.meaning.specs.Record.{recordOf}
 use Rattle.step_lines.specs.StepLines.{stepLines, headLine, tailLines}
 use Rattle.meaning.specs.Meanings.{meaningOf, stepsFrom, stepAt, stepOf, expectOf, commandOf, expectAllowed}
 use Rattle.scenario.specs.Scenario.{Reading, readingOf, scenario, linesFor, output, recordBytes}
-use Rattle.scenario.proofs.Job.{Promised}
+use Rattle.scenario.proofs.ReadScenario.{Promised}
 use Rattle.scenario.specs.declared.ScenarioAnswer.{ScenarioAnswer}
 use Rattle.yaml.specs.Represent.{Rep, treeOf}
 use Rattle.yaml.specs.Block.{Stream}

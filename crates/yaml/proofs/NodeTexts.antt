@@ -10,7 +10,7 @@ use lib.ListN.{length, drop, length-append, length-drop}
 use Rattle.refusal.specs.Base.{if_then_else_, maybe, ch, bytes, same}
 use Rattle.utf8.specs.Utf8.{within}
 use Rattle.utf8.specs.White.{white1, white2, in2000, white3, whiteAt, leadingFrom, leading, trimStart, allWhite, trimEnd, trim}
-use Rattle.utf8.specs.Laws.{leading-le, end-le, all-leading}
+use Rattle.utf8.proofs.Laws.{leading-le, end-le, all-leading}
 use Rattle.item.specs.Tree.{many, keyed}
 use Rattle.lines.specs.Dash.{dashed}
 use Rattle.yaml.specs.Characters.{nsChar, among, white, whites, spaces}

@@ -11,10 +11,10 @@ use lib.ListN.{length, drop}
 use borrow.Author.Tests.{ne-eqb, lt-leb}
 use Rattle.refusal.specs.Base.{if_then_else_, maybe, empty}
 use Rattle.utf8.specs.Utf8.{_‥_, within}
-use Rattle.utf8.specs.Ranges.{above}
+use Rattle.utf8.proofs.Ranges.{above}
 use Rattle.utf8.specs.White.{white1, white2, in2000, white3, whiteAt, whiteLen, leadingFrom, leading, trimStart, allWhite, trimEnd, trim}
-use Rattle.utf8.specs.Laws.{white-fits, whiteFrom, end-white, end-empty}
-use Rattle.utf8.specs.TrimLaws.{end-end}
+use Rattle.utf8.proofs.Laws.{white-fits, whiteFrom, end-white, end-empty}
+use Rattle.utf8.proofs.TrimLaws.{end-end}
 use Rattle.yaml.specs.Characters.{white, whites, nsChar}
 use Rattle.yaml.specs.Scalars.{Context, flow-out, PlainRest, p-end, p-char, p-space, p-tab, Plain, plain}
 use Rattle.yaml.specs.Flow.{Quoted, f-quoted}

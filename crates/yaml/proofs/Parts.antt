@@ -8,7 +8,7 @@ use lib.ListN.{length}
 use Rattle.refusal.specs.Base.{good}
 use Rattle.item.specs.Tree.{Yaml, levels}
 use Rattle.item.specs.Tree as Tree
-use Rattle.item.specs.Size.{size}
+use Rattle.item.proofs.Size.{size}
 use Rattle.lines.specs.Lines.{Line, line, Event, entry, splitLines, indentOf, scan}
 use Rattle.lines.specs.declared.Literal.the-variants.{Closed}
 use Rattle.literal.specs.Literal.{literal}

@@ -13,9 +13,9 @@ use Rattle.refusal.specs.Base.{if_then_else_, maybe, ch, bytes, same, empty, en
 use Rattle.item.specs.Tree.{many, keyed}
 use Rattle.utf8.specs.Utf8.{within}
 use Rattle.utf8.specs.White.{white1, white2, in2000, white3, whiteAt, whiteLen, leadingFrom, leading, trimStart, allWhite, trimEnd, trim}
-use Rattle.utf8.specs.Laws.{leading-le, end-le, end-empty}
+use Rattle.utf8.proofs.Laws.{leading-le, end-le, end-empty}
 use Rattle.lines.specs.Lines.{line, Event, entry, indentOf, tabbed, startsComment, uncommented, stripComment, significant, isMarker, opensLiteral, eventsOf, literalOf, literalAfter, blanksBefore, bodyOf, scan}
-use Rattle.lines.specs.Laws.{tab-none, tab-here, tab-on}
+use Rattle.lines.proofs.Laws.{tab-none, tab-here, tab-on}
 use Rattle.lines.specs.declared.Literal.the-variants.{Closed, Under}
 use Rattle.yaml.specs.Characters.{among, white, whites, nbChars, spaces}
 use Rattle.yaml.specs.Scalars.{Context, Plain, plain}

@@ -8,9 +8,9 @@ use lib.ListN.{length}
 use Rattle.refusal.specs.Base.{if_then_else_, maybe, given}
 use Rattle.item.specs.Tree.{keyed, Yaml, Entries, hasKey, levels}
 use Rattle.item.specs.Tree as Tree
-use Rattle.scalar.specs.Scalars.{text}
+use Rattle.scalar.specs.Scalars.{keyText}
 use Rattle.scalar.specs.declared.Role.the-variants.{AsKey}
-use Rattle.flow.specs.Sums.{key-weight, weight}
+use Rattle.flow.proofs.Sums.{key-weight, weight}
 use Rattle.yaml.specs.Represent.{Graph, Rep, asYaml}
 
 -- what an option must hold for a later one to hold something
@@ -39,7 +39,7 @@ pub record Paired (a v : Rep) (ps : Graph keyed) (es : Entries) : Type 0 where
   pub value : Yaml
   pub rest : Entries
   pub key-is : asYaml a ≡ some tree
-  pub text-is : text tree ≡ some key
+  pub text-is : keyText tree ≡ some key
   pub value-is : asYaml v ≡ some value
   pub rest-is : asYaml ps ≡ some rest
   pub next : (if hasKey key rest then none else some (Tree.pair key value rest)) ≡ some es
@@ -47,10 +47,10 @@ pub record Paired (a v : Rep) (ps : Graph keyed) (es : Entries) : Type 0 where
 pub pair-held : (a v : Rep) (ps : Graph keyed) (es : Entries) → asYaml (Graph.pair a v ps) ≡ some es → Paired a v ps es
 unfolding asYaml
 pair-held a v ps es e =
-    let f₁ : Yaml → Option Entries = λ y. maybe (text y) none λ key. maybe (asYaml v) none λ x. maybe (asYaml ps) none λ es. if hasKey key es then none else some (Tree.pair key x es) in
+    let f₁ : Yaml → Option Entries = λ y. maybe (keyText y) none λ key. maybe (asYaml v) none λ x. maybe (asYaml ps) none λ es. if hasKey key es then none else some (Tree.pair key x es) in
     let h₁ : Held (asYaml a) f₁ es = held (asYaml a) f₁ es e in
     let f₂ : List ℕ → Option Entries = λ key. maybe (asYaml v) none λ x. maybe (asYaml ps) none λ es. if hasKey key es then none else some (Tree.pair key x es) in
-    let h₂ : Held (text (h₁ .value)) f₂ es = held (text (h₁ .value)) f₂ es (h₁ .next) in
+    let h₂ : Held (keyText (h₁ .value)) f₂ es = held (keyText (h₁ .value)) f₂ es (h₁ .next) in
     let f₃ : Yaml → Option Entries = λ x. maybe (asYaml ps) none λ es. if hasKey (h₂ .value) es then none else some (Tree.pair (h₂ .value) x es) in
     let h₃ : Held (asYaml v) f₃ es = held (asYaml v) f₃ es (h₂ .next) in
     let f₄ : Entries → Option Entries = λ es. if hasKey (h₂ .value) es then none else some (Tree.pair (h₂ .value) (h₃ .value) es) in
@@ -69,8 +69,8 @@ pair-held a v ps es e =
 
 -- ---- keys
 
-pub scalar-levels : (y : Yaml) (k : List ℕ) → text y ≡ some k → levels y ≡ 0
-unfolding text levels
+pub scalar-levels : (y : Yaml) (k : List ℕ) → keyText y ≡ some k → levels y ≡ 0
+unfolding keyText levels
 scalar-levels Tree.null k e = refl
 scalar-levels (Tree.bool b) k e = refl
 scalar-levels (Tree.int z) k e = refl
@@ -78,6 +78,6 @@ scalar-levels (Tree.str s) k e = refl
 scalar-levels (Tree.seq ys) k e = absurd (Option·none-ne-some k e)
 scalar-levels (Tree.dict es) k e = absurd (Option·none-ne-some k e)
 
-pub key-size : (y : Yaml) (k : List ℕ) → text y ≡ some k → weight AsKey y ≡ 6 + length k
+pub key-size : (y : Yaml) (k : List ℕ) → keyText y ≡ some k → weight AsKey y ≡ 6 + length k
 unfolding given
 key-size y k e = key-weight 0 0 y k (rw e)

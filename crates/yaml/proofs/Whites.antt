@@ -8,7 +8,7 @@ use lib.Dec.{T, eqb, eqb→eq}
 use Rattle.refusal.specs.Base.{if_then_else_, maybe, ch}
 use Rattle.utf8.specs.Utf8.{within}
 use Rattle.utf8.specs.White.{white1, whiteAt, whiteLen, trimStart, trim}
-use Rattle.utf8.specs.TrimLaws.{trim-white, start-white}
+use Rattle.utf8.proofs.TrimLaws.{trim-white, start-white}
 use Rattle.yaml.specs.Characters.{white, whites, spaces}
 use Rattle.yaml.proofs.Tests.{and-two, or-two}
 

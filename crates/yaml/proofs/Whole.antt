@@ -11,27 +11,26 @@ use lib.ListN.{length, take, drop}
 use lib.Seq.{take-at}
 use borrow.Author.Tests.{leb-true, le-leb}
 use Rattle.refusal.specs.Base.{Answer, good, _>>=_, _>>_, if_then_else_, ensure}
-use Rattle.refusal.specs.Tools.{good-inj}
+use Rattle.refusal.proofs.Tools.{good-inj}
 use Rattle.utf8.specs.Utf8.{Range, _‥_, within, isUtf8}
-use Rattle.utf8.specs.Ranges.{if-both, if-one, inside, above}
+use Rattle.utf8.proofs.Ranges.{if-both, if-one, inside, above}
 use Rattle.utf8.specs.Points.{inAny, scalar}
-use Rattle.utf8.specs.Utf8Laws.{utf8-nil}
-use Rattle.utf8.specs.Utf8Points.{utf8-encode}
+use Rattle.utf8.proofs.Utf8Laws.{utf8-nil}
+use Rattle.utf8.proofs.Utf8Points.{utf8-encode}
 use Rattle.item.specs.Tree.{Yaml, levels}
 use Rattle.item.specs.Tree as Tree
 use Rattle.item.specs.Encode.{encode}
-use Rattle.item.specs.Size.{size, encode-size}
+use Rattle.item.proofs.Size.{size, encode-size}
 use Rattle.lines.specs.Lines.{Line, Event, entry, bad, collect, scan, splitLines, significantLines}
 use Rattle.lines.specs.declared.Literal.the-variants.{Closed}
 use Rattle.scalar.specs.Read.{cost, charge}
 use Rattle.literal.specs.Literal.{leaf}
 use Rattle.block.specs.Block.{blockOf, insideOf, block}
 use Rattle.block.specs.Block as Bl
-use Rattle.tree.specs.Tree.{admitted, nothingLeft, tree}
+use Rattle.tree.specs.Tree.{admitted, nothingLeft, tree, answerOf, sizeOf, left}
 use Rattle.tree.specs.Tree as Whole
 use Rattle.tree.specs.declared.TreeAnswer.{TreeAnswer}
-use Rattle.tree.specs.Agree.{answerOf, sizeOf, left}
-use Rattle.tree.specs.Job.{Promised}
+use Rattle.tree.proofs.ReadTree.{Promised}
 use Rattle.yaml.specs.Characters.{printable, utf8Of, allPrintable}
 use Rattle.yaml.specs.Represent.{Rep, treeOf}
 use Rattle.yaml.specs.Rows.{Row, node, note, body, blank, Comments, c-end, c-more}

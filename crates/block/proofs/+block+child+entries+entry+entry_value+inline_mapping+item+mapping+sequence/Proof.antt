@@ -1,4 +1,4 @@
--- The readers of blocks, which call each other: the levels fall. Each return is a law of `Steps`, `Turns` or `Places`. Assumes nothing.
+-- The readers of blocks, which call each other: the levels fall. Each return is a law of `Cases`, `Invariants` or `Places`. Assumes nothing.
 use borrow.Author.Needs.{needs}
 use mathlib.Core.Path.{_≡_, refl, sym, ap, _∙_, subst}
 use Prim.Native.Nat.{ℕ, suc, _+_, _*_, _-_, _≤_, _<_}
@@ -7,16 +7,16 @@ use lib.ListN.{length, drop}
 use Rattle.refusal.specs.Base.{refused}
 use Rattle.utf8.specs.White.{trim, trimStart}
 use Rattle.lines.specs.Table.{tableLines, lineAt, startAt, numberAt}
-use Rattle.lines.specs.Rows.{rows-end, in-lines, in-table, rows-next, entry-inside}
+use Rattle.lines.proofs.Rows.{rows-end, in-lines, in-table, rows-next, entry-inside}
 use Rattle.scalar.specs.Key.{keyEnd}
 use Rattle.scalar.specs.Code.{foundOf}
-use Rattle.literal.specs.Agree.{AgreesBlock}
+use Rattle.literal.specs.Contract.{AgreesBlock}
 use Rattle.block.specs.Block.{valueBehind, entriesOf, itemBehind, within}
-use Rattle.block.specs.Agree.{keyHere, columnAt, textAt}
-use Rattle.block.specs.Parts.{found-at, found-nothing}
-use Rattle.block.specs.Steps.{agrees-block, block-done, block-stopped, key-done, key-stopped, entry-done, entry-stopped, block-end, child-end}
-use Rattle.block.specs.Turns.{Mapped, mapped-start, mapped-end, map-stops, map-twice, map-on, Listed, listed-start, list-full, list-close, list-stops, list-on, map-full, map-refused, map-close, inline-full, inline-stops, inline-later, inline-twice, inline-close}
-use Rattle.block.specs.Places.{key-there, dash-there, dash-text, key-splits, entry-as, column-is, key-first, block-line-at, sequence-deep-at, block-sequence-at, mapping-deep-at, block-mapping-at, child-deeper-at, child-none-at, value-nothing-at, value-literal-at, value-stripped-at, value-line-at, entry-unkeyed-at, entry-unvalued-at, entry-done-at, item-child-at, item-line-at, item-splits, item-deep-at, item-inline-at}
+use Rattle.block.specs.Contract.{keyHere, columnAt, textAt}
+use Rattle.block.proofs.Parts.{found-at, found-nothing}
+use Rattle.block.proofs.Cases.{agrees-block, block-done, block-stopped, key-done, key-stopped, entry-done, entry-stopped, block-end, child-end}
+use Rattle.block.proofs.Invariants.{Mapped, mapped-start, mapped-end, map-stops, map-twice, map-on, Listed, listed-start, list-full, list-close, list-stops, list-on, map-full, map-refused, map-close, inline-full, inline-stops, inline-later, inline-twice, inline-close}
+use Rattle.block.proofs.Places.{key-there, dash-there, dash-text, key-splits, entry-as, column-is, key-first, block-line-at, sequence-deep-at, block-sequence-at, mapping-deep-at, block-mapping-at, child-deeper-at, child-none-at, value-nothing-at, value-literal-at, value-stripped-at, value-line-at, entry-unkeyed-at, entry-unvalued-at, entry-done-at, item-child-at, item-line-at, item-splits, item-deep-at, item-inline-at}
 use borrow.Fn.Kinds.{In}
 use borrow.Fn.PlainCycle.{Measures, is, falls, and}
 use Rattle.block.proofs.block.Reads as block

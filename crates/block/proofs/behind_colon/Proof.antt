@@ -3,7 +3,7 @@ use borrow.Author.Needs.{needs}
 use mathlib.Core.Path.{sym, _∙_}
 use native.Mathlib.Omega.{arith}
 use Rattle.refusal.specs.Base.{bytes}
-use Rattle.block.specs.Parts.{behind-nothing, behind-literal, behind-stripped, behind-value}
+use Rattle.block.proofs.Parts.{behind-nothing, behind-literal, behind-stripped, behind-value}
 use Rattle.block.proofs.behind_colon.Statement.{statement}
 use Rattle.block.proofs.behind_colon.Tie as tie
 

@@ -6,7 +6,7 @@ use lib.ListN.{length}
 use Rattle.refusal.specs.Told.{toldOf}
 use Rattle.scalar.specs.declared.Role.the-variants.{AsKey}
 use Rattle.flow.specs.Flow.{flow}
-use Rattle.block.specs.Parts.{whole-is, stopped-is, key-empty, key-complex, key-refused, key-unnamed, key-done}
+use Rattle.block.proofs.Parts.{whole-is, stopped-is, key-empty, key-complex, key-refused, key-unnamed, key-done}
 use Rattle.block.proofs.block_key.Statement.{statement}
 use Rattle.block.proofs.block_key.Tie as tie
 

@@ -2,7 +2,7 @@
 use borrow.Author.Needs.{needs}
 use native.Mathlib.Omega.{arith}
 use mathlib.Core.Path.{_∙_}
-use Rattle.block.specs.Parts.{dash-end, dash-on}
+use Rattle.block.proofs.Parts.{dash-end, dash-on}
 use Rattle.block.proofs.goes_on.Statement.{statement}
 use Rattle.block.proofs.goes_on.Tie as tie
 

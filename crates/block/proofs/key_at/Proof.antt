@@ -6,7 +6,7 @@ use Prim.Native.Nat.{ℕ}
 use mathlib.Core.List.{List}
 use Rattle.scalar.specs.Key.{keyEnd}
 use Rattle.scalar.specs.Code.{foundOf}
-use Rattle.block.specs.Parts.{key-end-none, key-elsewhere, key-on}
+use Rattle.block.proofs.Parts.{key-end-none, key-elsewhere, key-on}
 use Rattle.block.proofs.key_at.Statement.{statement}
 use Rattle.block.proofs.key_at.Tie as tie
 

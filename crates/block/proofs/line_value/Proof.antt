@@ -4,7 +4,7 @@ use lib.ListN.{length, drop}
 use Rattle.refusal.specs.Told.{toldOf}
 use Rattle.scalar.specs.declared.Role.the-variants.{AsValue}
 use Rattle.flow.specs.Flow.{flow}
-use Rattle.block.specs.Parts.{whole-is, stopped-is, line-refused, line-done}
+use Rattle.block.proofs.Parts.{whole-is, stopped-is, line-refused, line-done}
 use Rattle.block.proofs.line_value.Statement.{statement}
 use Rattle.block.proofs.line_value.Tie as tie
 

@@ -2,7 +2,7 @@
 use borrow.Author.Needs.{needs}
 use native.Mathlib.Omega.{arith}
 use lib.ListN.{length, drop}
-use Rattle.block.specs.Parts.{null-full, null-done}
+use Rattle.block.proofs.Parts.{null-full, null-done}
 use Rattle.block.proofs.null.Statement.{statement}
 use Rattle.block.proofs.null.Tie as tie
 

@@ -2,7 +2,7 @@
 use borrow.Author.Needs.{needs}
 use mathlib.Core.Path.{sym, _∙_}
 use Rattle.scalar.specs.Key.{keyEnd}
-use Rattle.block.specs.Parts.{found-at, found-nothing, opens-dash, opens-key, opens-flow}
+use Rattle.block.proofs.Parts.{found-at, found-nothing, opens-dash, opens-key, opens-flow}
 use Rattle.block.proofs.opens_with.Statement.{statement}
 use Rattle.block.proofs.opens_with.Tie as tie
 

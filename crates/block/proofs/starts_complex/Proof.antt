@@ -1,6 +1,6 @@
 -- By the first byte. Assumes nothing.
 use borrow.Author.Needs.{needs}
-use Rattle.block.specs.Parts.{complex-question, complex-anchor, complex-alias, complex-not}
+use Rattle.block.proofs.Parts.{complex-question, complex-anchor, complex-alias, complex-not}
 use Rattle.block.proofs.starts_complex.Statement.{statement}
 use Rattle.block.proofs.starts_complex.Tie as tie
 

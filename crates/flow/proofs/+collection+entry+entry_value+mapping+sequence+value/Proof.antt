@@ -1,4 +1,4 @@
--- The readers of a value, an entry and the two collections, which call each other: the levels fall. Each return is a law of `Turns` or `Values`. Assumes nothing.
+-- The readers of a value, an entry and the two collections, which call each other: the levels fall. Each return is a law of `Invariants` or `Values`. Assumes nothing.
 use borrow.Author.Needs.{needs}
 use mathlib.Core.Path.{sym, _∙_}
 use Prim.Native.Nat.{ℕ, _+_, _*_, _-_, _<_}
@@ -8,8 +8,8 @@ use mathlib.Core.Logic.{inl, inr}
 use Rattle.scalar.specs.declared.Role.the-variants.{AsValue, AsKey}
 use borrow.Author.Tests.{not-true, not-false}
 use Rattle.refusal.specs.Told.{toldOf}
-use Rattle.flow.specs.Turns.{Listed, Mapped, listed-start, listed-at, list-open, list-close, list-stuck, list-stops, list-on, list-falls, mapped-start, mapped-at, map-open, map-close, map-stops, got-entry, map-again, map-on, wrote-is, refused-is}
-use Rattle.flow.specs.Values.{agrees-of, value-end, value-double, value-single, value-anchor, value-alias, value-tag, value-plain, value-deep, value-full, value-mapping, value-sequence, value-last, value-comma, value-brace, value-there, entry-refused, entry-unnamed, entry-ends, entry-colonless, entry-halts, entry-reads}
+use Rattle.flow.proofs.Invariants.{Listed, Mapped, listed-start, listed-at, list-open, list-close, list-stuck, list-stops, list-on, list-falls, mapped-start, mapped-at, map-open, map-close, map-stops, got-entry, map-again, map-on, wrote-is, refused-is}
+use Rattle.flow.proofs.Values.{agrees-of, value-end, value-double, value-single, value-anchor, value-alias, value-tag, value-plain, value-deep, value-full, value-mapping, value-sequence, value-last, value-comma, value-brace, value-there, entry-refused, entry-unnamed, entry-ends, entry-colonless, entry-halts, entry-reads}
 use borrow.Fn.Kinds.{In}
 use borrow.Fn.PlainCycle.{Measures, is, falls, and}
 use Rattle.flow.proofs.collection.Reads as collection

@@ -41,7 +41,7 @@ use denote.Triple.Table.{entered, cited}
 use denote.Triple.Walked.{says, needs, Stays, stay-none, stay-none-slice, gave-slice, walkOf, goes-none, goes-none-slice, goes-gave-slice, Walks, ends-at, walked, walk-meets}
 use denote.Exit.{yes}
 use denote.Triple.Clauses.{ensured, lasts}
-use Rattle.scalar.specs.Agree.{Agrees}
+use Rattle.scalar.specs.Contract.{Agrees}
 use Rattle.scalar.specs.Read.{skipSpaces}
 use Rattle.scalar.specs.declared.Parsed.{Parsed}
 use Rattle.scalar.specs.declared.Role.{Role}
@@ -50,7 +50,7 @@ use Rattle.scalar.proofs.Parsed.Laws as P′
 use Rattle.scalar.proofs.Role as R
 use Rattle.scalar.proofs.Role.Laws as R′
 use Rattle.flow.specs.Flow as definition
-use Rattle.flow.specs.Agree.{AgreesWhole}
+use Rattle.flow.specs.Contract.{AgreesWhole}
 use Rattle.flow.specs.Ends.{Within, finishOf}
 use Rattle.flow.proofs.Ends.{whole-of, within-of}
 use Rattle.flow.specs.declared.Cursor.{Cursor}

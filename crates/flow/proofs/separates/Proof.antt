@@ -1,6 +1,6 @@
 -- By the byte. Assumes nothing.
 use borrow.Author.Tests.{ne-eqb}
-use Rattle.flow.specs.Agree.{separates}
+use Rattle.flow.specs.Contract.{separates}
 use Rattle.flow.proofs.separates.Statement.{statement}
 use Rattle.flow.proofs.separates.Tie as tie
 

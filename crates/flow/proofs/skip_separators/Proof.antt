@@ -6,8 +6,8 @@ use native.Mathlib.Omega.{arith}
 use mathlib.Core.Bool.{false}
 use Prim.Native.Nat.{_≤_, _-_}
 use lib.ListN.{length, drop, getD}
-use Rattle.flow.specs.Agree.{separates, skipSeparators}
-use Rattle.flow.specs.Values.{separators-end, separators-here, separators-on}
+use Rattle.flow.specs.Contract.{separates, skipSeparators}
+use Rattle.flow.proofs.Values.{separators-end, separators-here, separators-on}
 use Rattle.flow.proofs.skip_separators.Statement.{statement}
 use Rattle.flow.proofs.skip_separators.Tie as tie
 

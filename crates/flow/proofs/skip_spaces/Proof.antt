@@ -4,7 +4,7 @@ use mathlib.Core.Path.{_≡_, refl, sym, _∙_}
 use Prim.Native.Nat.{_≤_, _-_}
 use lib.ListN.{length, drop}
 use Rattle.scalar.specs.Read.{skipSpaces}
-use Rattle.flow.specs.Values.{spaces-end, spaces-here, spaces-on}
+use Rattle.flow.proofs.Values.{spaces-end, spaces-here, spaces-on}
 use Rattle.flow.proofs.skip_spaces.Statement.{statement}
 use Rattle.flow.proofs.skip_spaces.Tie as tie
 

@@ -6,7 +6,7 @@ use Prim.Native.Nat.{ℕ, _+_, _≤_, _-_}
 use native.Mathlib.Omega.{arith}
 use lib.ListN.{length, set, take, getD, length-set}
 use lib.Seq.{sets, take-length}
-use Rattle.item.specs.Runs.{sets-next}
+use Rattle.item.proofs.Runs.{sets-next}
 use Rattle.item.proofs.copy.Statement.{statement}
 use Rattle.item.proofs.copy.Tie as tie
 

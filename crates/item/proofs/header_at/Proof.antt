@@ -2,7 +2,7 @@
 use borrow.Author.Needs.{needs}
 use mathlib.Core.Path.{sym}
 use native.Mathlib.Omega.{arith}
-use Rattle.item.specs.Places.{at-cut, at-past, at-item}
+use Rattle.item.proofs.HeaderPlaces.{at-cut, at-past, at-item}
 use Rattle.item.proofs.header_at.Statement.{statement}
 use Rattle.item.proofs.header_at.Tie as tie
 

@@ -1,7 +1,7 @@
 -- Two bytes are the number that they make. Assumes nothing.
 use borrow.Author.Needs.{needs}
 use native.Mathlib.Omega.{arith}
-use Rattle.item.specs.Places.{two-at}
+use Rattle.item.proofs.HeaderPlaces.{two-at}
 use Rattle.item.proofs.kind_at.Statement.{statement}
 use Rattle.item.proofs.kind_at.Tie as tie
 

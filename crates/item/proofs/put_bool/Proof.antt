@@ -2,7 +2,7 @@
 use borrow.Author.Needs.{needs}
 use Rattle.item.specs.Encode.{flag, encode}
 use mathlib.Core.List.{[], _∷_}
-use Rattle.item.specs.Runs.{sets-item}
+use Rattle.item.proofs.Runs.{sets-item}
 use Rattle.item.proofs.Laws.{bool-flag}
 use Rattle.item.proofs.put_bool.Statement.{statement}
 use Rattle.item.proofs.put_bool.Tie as tie

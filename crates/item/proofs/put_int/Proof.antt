@@ -2,7 +2,7 @@
 use borrow.Author.Needs.{needs}
 use Rattle.item.specs.Encode.{le, twos, signed, encode}
 use mathlib.Core.Path.{_∙_}
-use Rattle.item.specs.Runs.{sets-item}
+use Rattle.item.proofs.Runs.{sets-item}
 use Rattle.item.proofs.put_int.Statement.{statement}
 use Rattle.item.proofs.put_int.Tie as tie
 

@@ -3,7 +3,7 @@ use borrow.Author.Needs.{needs}
 use mathlib.Core.Path.{_∙_}
 use Rattle.item.specs.Encode.{encode}
 use mathlib.Core.List.{[]}
-use Rattle.item.specs.Runs.{sets-item}
+use Rattle.item.proofs.Runs.{sets-item}
 use Rattle.item.proofs.put_null.Statement.{statement}
 use Rattle.item.proofs.put_null.Tie as tie
 

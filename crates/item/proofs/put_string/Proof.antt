@@ -2,7 +2,7 @@
 use borrow.Author.Needs.{needs}
 use mathlib.Core.Path.{_∙_}
 use Rattle.item.specs.Encode.{encode}
-use Rattle.item.specs.Runs.{sets-item}
+use Rattle.item.proofs.Runs.{sets-item}
 use Rattle.item.proofs.put_string.Statement.{statement}
 use Rattle.item.proofs.put_string.Tie as tie
 

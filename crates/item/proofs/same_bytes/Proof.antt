@@ -4,7 +4,7 @@ use mathlib.Core.Path.{_≡_, refl, sym, _∙_, ap}
 use Prim.Native.Nat.{_≤_, _-_}
 use lib.ListN.{length, drop}
 use Rattle.refusal.specs.Base.{same}
-use Rattle.item.specs.Same.{same-ne, same-end, same-more, same-other}
+use Rattle.item.proofs.Same.{same-ne, same-end, same-more, same-other}
 use Rattle.item.proofs.same_bytes.Statement.{statement}
 use Rattle.item.proofs.same_bytes.Tie as tie
 

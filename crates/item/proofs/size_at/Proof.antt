@@ -1,7 +1,7 @@
 -- Four bytes are the number that they make. Assumes nothing.
 use borrow.Author.Needs.{needs}
 use native.Mathlib.Omega.{arith}
-use Rattle.item.specs.Places.{four-at}
+use Rattle.item.proofs.HeaderPlaces.{four-at}
 use Rattle.item.proofs.size_at.Statement.{statement}
 use Rattle.item.proofs.size_at.Tie as tie
 

@@ -6,7 +6,7 @@ use Prim.Native.Nat.{_-_}
 use native.Mathlib.Omega.{arith}
 use Rattle.lines.specs.Lines.{tabbed}
 use Rattle.lines.specs.Places.{IsRaw, rawText}
-use Rattle.lines.specs.StepLaws.{raw-tab, tab-stops-body, full-stops-body, body-takes}
+use Rattle.lines.proofs.StepLaws.{raw-tab, tab-stops-body, full-stops-body, body-takes}
 use Rattle.lines.proofs.body_line.Statement.{statement}
 use Rattle.lines.proofs.body_line.Tie as tie
 

@@ -6,7 +6,7 @@ use Prim.Native.Nat.{_+_, _≤_, _-_}
 use lib.ListN.{length, getD}
 use Rattle.utf8.specs.Part.{part}
 use Rattle.lines.specs.Lines.{stripComment, uncommented, startsComment}
-use Rattle.lines.specs.Laws.{comment-none, comment-here, comment-on}
+use Rattle.lines.proofs.Laws.{comment-none, comment-here, comment-on}
 use mathlib.Core.Bool.{true, false}
 use Rattle.lines.proofs.comment_at.Statement.{statement}
 use Rattle.lines.proofs.comment_at.Tie as tie

@@ -3,7 +3,7 @@ use borrow.Author.Needs.{needs}
 use mathlib.Core.Path.{sym, ap, _∙_}
 use Rattle.lines.specs.Dash.{dashed}
 use Rattle.lines.specs.Table.{lineAt}
-use Rattle.lines.specs.Laws.{dash-elsewhere, dash-here}
+use Rattle.lines.proofs.Laws.{dash-elsewhere, dash-here}
 use Rattle.lines.proofs.dash_at.Statement.{statement}
 use Rattle.lines.proofs.dash_at.Tie as tie
 

@@ -1,6 +1,6 @@
 -- By the length and the first bytes. Assumes nothing.
 use borrow.Author.Needs.{needs}
-use Rattle.lines.specs.Laws.{dashed-empty, dashed-other, dashed-alone, dashed-more}
+use Rattle.lines.proofs.Laws.{dashed-empty, dashed-other, dashed-alone, dashed-more}
 use native.Mathlib.Omega.{arith}
 use Rattle.lines.proofs.dashed.Statement.{statement}
 use Rattle.lines.proofs.dashed.Tie as tie

@@ -6,7 +6,7 @@ use Prim.Native.Nat.{ℕ, _-_}
 use lib.ListN.{length, take, drop, length-drop}
 use lib.Seq.{take-all}
 use Rattle.refusal.specs.Base.{same}
-use Rattle.lines.specs.Laws.{ends-short, ends-at}
+use Rattle.lines.proofs.Laws.{ends-short, ends-at}
 use Rattle.lines.proofs.ends_with.Statement.{statement}
 use Rattle.lines.proofs.ends_with.Tie as tie
 

@@ -9,7 +9,7 @@ use Rattle.refusal.specs.Told.{toldOf}
 use Rattle.lines.specs.Lines.{scan}
 use Rattle.lines.specs.Places.{rawText}
 use Rattle.lines.specs.Table.{Takes}
-use Rattle.lines.specs.StepLaws.{lines-start, lines-end, is-raw, stops, goes-on, Scanned}
+use Rattle.lines.proofs.StepLaws.{lines-start, lines-end, is-raw, stops, goes-on, Scanned}
 use Rattle.lines.proofs.fill.Statement.{statement}
 use Rattle.lines.proofs.fill.Tie as tie
 

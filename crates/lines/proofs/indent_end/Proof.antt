@@ -5,7 +5,7 @@ use native.Mathlib.Omega.{arith}
 use Prim.Native.Nat.{_+_, _≤_, _-_}
 use Rattle.utf8.specs.Part.{part}
 use Rattle.lines.specs.Lines.{indentOf}
-use Rattle.lines.specs.Laws.{indent-none, indent-here, indent-on}
+use Rattle.lines.proofs.Laws.{indent-none, indent-here, indent-on}
 use Rattle.lines.proofs.indent_end.Statement.{statement}
 use Rattle.lines.proofs.indent_end.Tie as tie
 

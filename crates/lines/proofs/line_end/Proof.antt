@@ -1,7 +1,7 @@
 -- By the byte before the newline. Assumes nothing.
 use borrow.Author.Needs.{needs}
 use native.Mathlib.Omega.{arith}
-use Rattle.lines.specs.Places.{ends-last, ends-empty, ends-return, ends-other}
+use Rattle.lines.proofs.LineEnds.{ends-last, ends-empty, ends-return, ends-other}
 use Rattle.lines.proofs.line_end.Statement.{statement}
 use Rattle.lines.proofs.line_end.Tie as tie
 

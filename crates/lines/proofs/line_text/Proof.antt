@@ -1,8 +1,8 @@
 -- The part that the entry says. Assumes nothing.
 use borrow.Author.Needs.{needs}
 use native.Mathlib.Omega.{arith}
-use Rattle.utf8.specs.Laws.{part-length}
-use Rattle.lines.specs.Rows.{entry-ordered, entry-inside, entry-text}
+use Rattle.utf8.proofs.Laws.{part-length}
+use Rattle.lines.proofs.Rows.{entry-ordered, entry-inside, entry-text}
 use Rattle.lines.proofs.line_text.Statement.{statement}
 use Rattle.lines.proofs.line_text.Tie as tie
 

@@ -5,7 +5,7 @@ use native.Mathlib.Omega.{arith}
 use Prim.Native.Nat.{_+_, _≤_, _-_}
 use lib.ListN.{length, drop}
 use Rattle.lines.specs.Places.{untilNewline}
-use Rattle.lines.specs.Laws.{newline-none, newline-here, newline-on}
+use Rattle.lines.proofs.Laws.{newline-none, newline-here, newline-on}
 use Rattle.lines.proofs.newline_at.Statement.{statement}
 use Rattle.lines.proofs.newline_at.Tie as tie
 

@@ -1,6 +1,6 @@
 -- Where no test holds, eight bytes are passed. Assumes nothing.
 use borrow.Author.Needs.{needs}
-use Rattle.lines.specs.Laws.{newline-eight}
+use Rattle.lines.proofs.Laws.{newline-eight}
 use Rattle.lines.proofs.newline_in_eight.Statement.{statement}
 use Rattle.lines.proofs.newline_in_eight.Tie as tie
 

@@ -6,7 +6,7 @@ use Prim.Native.Nat.{_-_}
 use native.Mathlib.Omega.{arith}
 use Rattle.lines.specs.Lines.{tabbed}
 use Rattle.lines.specs.Places.{IsRaw, rawText}
-use Rattle.lines.specs.StepLaws.{raw-significant, raw-tab, tab-stops, none-takes, marker-stops, full-stops, entry-takes}
+use Rattle.lines.proofs.StepLaws.{raw-significant, raw-tab, tab-stops, none-takes, marker-stops, full-stops, entry-takes}
 use Rattle.lines.proofs.normal_line.Statement.{statement}
 use Rattle.lines.proofs.normal_line.Tie as tie
 

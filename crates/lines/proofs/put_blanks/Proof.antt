@@ -8,7 +8,7 @@ use lib.ListN.{length}
 use lib.Seq.{length-sets}
 use Rattle.lines.specs.Lines.{Event, blanksBefore}
 use Rattle.lines.specs.Table.{Took}
-use Rattle.lines.specs.TableLaws.{took-none, took-both, took-blank}
+use Rattle.lines.proofs.TableLaws.{took-none, took-both, took-blank}
 use Rattle.lines.proofs.put_blanks.Statement.{statement}
 use Rattle.lines.proofs.put_blanks.Tie as tie
 

@@ -3,10 +3,10 @@ use borrow.Author.Needs.{needs}
 use mathlib.Core.Path.{_≡_, refl, sym, _∙_}
 use mathlib.Core.Bool.{true, false}
 use Rattle.utf8.specs.White.{allWhite}
-use Rattle.utf8.specs.Laws.{part-white, part-not-white}
+use Rattle.utf8.proofs.Laws.{part-white, part-not-white}
 use Rattle.lines.specs.Places.{IsRaw, rawText}
-use Rattle.lines.specs.TableLaws.{took-none}
-use Rattle.lines.specs.StepLaws.{raw-white, took-of, takes-of, scan-closed, scan-blank, scan-shallow, scan-body}
+use Rattle.lines.proofs.TableLaws.{took-none}
+use Rattle.lines.proofs.StepLaws.{raw-white, took-of, takes-of, scan-closed, scan-blank, scan-shallow, scan-body}
 use Rattle.lines.proofs.read_line.Statement.{statement}
 use Rattle.lines.proofs.read_line.Tie as tie
 

@@ -7,9 +7,9 @@ use Prim.Native.Nat.{ℕ, _≤_, _-_}
 use lib.ListN.{getD}
 use Rattle.utf8.specs.Part.{part}
 use Rattle.utf8.specs.White.{whiteLen}
-use Rattle.utf8.specs.Laws.{part-drop, part-getD}
+use Rattle.utf8.proofs.Laws.{part-drop, part-getD}
 use Rattle.lines.specs.Lines.{tabbed}
-use Rattle.lines.specs.Laws.{tab-none, tab-here, tab-on}
+use Rattle.lines.proofs.Laws.{tab-none, tab-here, tab-on}
 use Rattle.lines.proofs.tab_leads.Statement.{statement}
 use Rattle.lines.proofs.tab_leads.Tie as tie
 

@@ -3,8 +3,8 @@ use borrow.Author.Needs.{needs}
 use mathlib.Core.Path.{_≡_}
 use Prim.Native.Nat.{_*_, _≤_, _-_}
 use native.Mathlib.Omega.{arith}
-use Rattle.literal.specs.Walk.{Counted}
-use Rattle.literal.specs.Laws.{count-start, count-more, extent-of, row-stop, row-end}
+use Rattle.literal.proofs.Walk.{Counted}
+use Rattle.literal.proofs.Laws.{count-start, count-more, extent-of, row-stop, row-end}
 use Rattle.literal.proofs.extent.Statement.{statement}
 use Rattle.literal.proofs.extent.Tie as tie
 

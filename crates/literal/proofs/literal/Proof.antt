@@ -3,8 +3,8 @@ use borrow.Author.Needs.{needs}
 use native.Mathlib.Omega.{arith}
 use lib.ListN.{length}
 use Rattle.lines.specs.Table.{tableLines}
-use Rattle.lines.specs.Rows.{rows-length}
-use Rattle.literal.specs.Whole.{literal-none, literal-beside, literal-under}
+use Rattle.lines.proofs.Rows.{rows-length}
+use Rattle.literal.proofs.Whole.{literal-none, literal-beside, literal-under}
 use Rattle.literal.proofs.literal.Statement.{statement}
 use Rattle.literal.proofs.literal.Tie as tie
 

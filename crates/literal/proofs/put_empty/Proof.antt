@@ -4,7 +4,7 @@ use mathlib.Core.List.{[]}
 use Prim.Native.Nat.{_+_}
 use native.Mathlib.Omega.{arith}
 use lib.ListN.{length, drop}
-use Rattle.literal.specs.Laws.{leaf-short, wrote-string}
+use Rattle.literal.proofs.Laws.{leaf-short, wrote-string}
 use Rattle.literal.proofs.put_empty.Statement.{statement}
 use Rattle.literal.proofs.put_empty.Tie as tie
 

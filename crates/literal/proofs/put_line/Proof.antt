@@ -7,7 +7,7 @@ use native.Mathlib.Omega.{arith}
 use lib.ListN.{length, set, length-set}
 use lib.Seq.{sets}
 use Rattle.refusal.specs.Base.{ch}
-use Rattle.literal.specs.Laws.{line-front, line-whole, line-cut}
+use Rattle.literal.proofs.Laws.{line-front, line-whole, line-cut}
 use Rattle.literal.proofs.put_line.Statement.{statement}
 use Rattle.literal.proofs.put_line.Tie as tie
 

@@ -4,9 +4,9 @@ use mathlib.Core.Path.{_≡_, refl, _∙_}
 use Prim.Native.Nat.{_+_, _≤_, _-_}
 use native.Mathlib.Omega.{arith}
 use lib.ListN.{length}
-use Rattle.utf8.specs.Laws.{part-length}
+use Rattle.utf8.proofs.Laws.{part-length}
 use Rattle.literal.specs.Walk.{bodyFrom}
-use Rattle.literal.specs.Laws.{left, entry-size, write-more, write-none, row-stop, row-end}
+use Rattle.literal.proofs.Laws.{left, entry-size, write-more, write-none, row-stop, row-end}
 use Rattle.literal.proofs.put_lines.Statement.{statement}
 use Rattle.literal.proofs.put_lines.Tie as tie
 

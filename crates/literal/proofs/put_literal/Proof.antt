@@ -2,7 +2,7 @@
 use borrow.Author.Needs.{needs}
 use native.Mathlib.Omega.{arith}
 use lib.ListN.{length}
-use Rattle.literal.specs.Whole.{kept-range, extent-some, literal-short, literal-wrote}
+use Rattle.literal.proofs.Whole.{kept-range, extent-some, literal-short, literal-wrote}
 use Rattle.literal.proofs.put_literal.Statement.{statement}
 use Rattle.literal.proofs.put_literal.Tie as tie
 

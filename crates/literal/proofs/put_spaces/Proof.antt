@@ -7,7 +7,7 @@ use native.Mathlib.Omega.{arith}
 use lib.ListN.{length, set, replicate, length-set}
 use lib.Seq.{sets}
 use Rattle.refusal.specs.Base.{ch}
-use Rattle.literal.specs.Laws.{sets-same}
+use Rattle.literal.proofs.Laws.{sets-same}
 use Rattle.literal.proofs.put_spaces.Statement.{statement}
 use Rattle.literal.proofs.put_spaces.Tie as tie
 

@@ -7,8 +7,8 @@ use mathlib.Core.List.{List}
 use lib.ListN.{length}
 use lib.Seq.{sets}
 use Rattle.item.specs.Encode.{head, signed}
-use Rattle.item.specs.Size.{item-length}
-use Rattle.item.specs.Runs.{sets-item}
+use Rattle.item.proofs.Size.{item-length}
+use Rattle.item.proofs.Runs.{sets-item}
 use Rattle.scalar.specs.Scalars.{intText}
 use Rattle.nodes.proofs.put_integer.Statement.{statement}
 use Rattle.nodes.proofs.put_integer.Tie as tie

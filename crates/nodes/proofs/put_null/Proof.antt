@@ -6,8 +6,8 @@ use mathlib.Core.List.{[]}
 use Prim.Native.Nat.{ℕ, _+_, _-_}
 use lib.Seq.{sets}
 use Rattle.item.specs.Encode.{head, encode}
-use Rattle.item.specs.Size.{item-length}
-use Rattle.item.specs.Runs.{sets-item}
+use Rattle.item.proofs.Size.{item-length}
+use Rattle.item.proofs.Runs.{sets-item}
 use Rattle.nodes.proofs.put_null.Statement.{statement}
 use Rattle.nodes.proofs.put_null.Tie as tie
 

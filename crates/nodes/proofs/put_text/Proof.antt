@@ -7,9 +7,9 @@ use mathlib.Core.List.{List}
 use lib.ListN.{length}
 use lib.Seq.{sets}
 use Rattle.item.specs.Encode.{head, item}
-use Rattle.item.specs.Size.{head-length, item-length}
-use Rattle.item.specs.Runs.{sets-before}
-use Rattle.nodes.specs.Agree.{Stored}
+use Rattle.item.proofs.Size.{head-length, item-length}
+use Rattle.item.proofs.Runs.{sets-before}
+use Rattle.nodes.specs.Contract.{Stored}
 use Rattle.nodes.proofs.put_text.Statement.{statement}
 use Rattle.nodes.proofs.put_text.Tie as tie
 

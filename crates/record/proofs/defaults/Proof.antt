@@ -6,8 +6,8 @@ use mathlib.Core.Path.{subst}
 use Prim.Native.Nat.{_-_}
 use Rattle.value.specs.Walks.{Walks}
 use Rattle.record.specs.Read.{fieldOf, asOptional}
-use Rattle.record.specs.Views.{optional-walks}
-use Rattle.record.specs.Chains.{defaults₁, defaults₂, defaults₃}
+use Rattle.record.proofs.Views.{optional-walks}
+use Rattle.record.proofs.Chains.{defaults₁, defaults₂, defaults₃}
 
 returns : tie.Need-returns
 returns c = defaults₁ ((c .before .before .before .before .args) .s .now) (subst (Walks (fieldOf asOptional 0) ((c .before .before .before .before .args) .s .now) 0) (c .enum-told .given .1) (optional-walks 0 ((c .before .before .before .before .args) .s .now) 0 (c .before .before .value-of .result) (c .before .before .value-of .ensures)))

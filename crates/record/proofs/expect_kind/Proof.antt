@@ -4,7 +4,7 @@ use Rattle.record.proofs.expect_kind.Statement.{statement}
 use Rattle.record.proofs.expect_kind.Tie as tie
 use mathlib.Core.Path.{sym, _∙_}
 use Rattle.refusal.specs.Base.{if_then_else_}
-use Rattle.record.specs.Agree.{expectKind}
+use Rattle.record.specs.Contract.{expectKind}
 
 returns : tie.Need-returns
 unfolding expectKind if_then_else_

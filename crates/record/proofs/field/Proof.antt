@@ -3,9 +3,10 @@ use borrow.Author.Needs.{needs}
 use mathlib.Core.Path.{sym, ap, _∙_}
 use Prim.Native.Nat.{_-_}
 use native.Mathlib.Omega.{arith}
-use Rattle.record.specs.Jobs.{answerOf, spanOf}
-use Rattle.record.specs.Lookups.{field-zero, field-refused}
-use Rattle.record.specs.Answers.{opened-as, field-out, field-in}
+use Rattle.record.specs.Jobs.{answerOf}
+use Rattle.record.specs.Contract.{spanOf}
+use Rattle.record.proofs.Lookups.{field-zero, field-refused}
+use Rattle.record.proofs.Answers.{opened-as, field-out, field-in}
 use Rattle.record.proofs.field.Statement.{statement}
 use Rattle.record.proofs.field.Tie as tie
 

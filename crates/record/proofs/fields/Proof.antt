@@ -7,12 +7,12 @@ use mathlib.Core.List.{List}
 use mathlib.Core.Bool.{true}
 use mathlib.Core.Option.{some}
 use borrow.Author.Tests.{not-true, not-false}
-use Rattle.value.specs.Turns.{part-small}
+use Rattle.value.proofs.Invariants.{part-small}
 use Rattle.value.specs.Walks.{Read, Walks}
 use Rattle.record.specs.Read.{fieldOf, asText}
-use Rattle.record.specs.Agree.{Held, Holds, areTexts}
-use Rattle.record.specs.Views.{text-walks, tree-walks}
-use Rattle.record.specs.Chains.{inPart, fields₁, fields₂, fields₃, fields₄, fields₅, fields₆, fields₇}
+use Rattle.record.specs.Contract.{ItemAt, ItemEnds, areTexts}
+use Rattle.record.proofs.Views.{text-walks, tree-walks}
+use Rattle.record.proofs.Chains.{inPart, fields₁, fields₂, fields₃, fields₄, fields₅, fields₆, fields₇}
 use Rattle.record.proofs.fields.Statement.{statement}
 use Rattle.record.proofs.fields.Tie as tie
 use Rattle.record.proofs.fields.Reads as reads
@@ -72,8 +72,8 @@ from c = b (c .before .before .before .before)
 abbrev to : Tags → ℕ
 to c = c .before .tags .given .0 .0
 
-tags : (c : Tags) → Held 4 (s₃ c) (from c) (to c)
-tags c = subst (Holds 4 (s₃ c) (from c)) (c .before .tags .given .1) (c .before .before .before .item-of .ensures)
+tags : (c : Tags) → ItemAt 4 (s₃ c) (from c) (to c)
+tags c = subst (ItemEnds 4 (s₃ c) (from c)) (c .before .tags .given .1) (c .before .before .before .item-of .ensures)
 
 abbrev s₄ : Tagged → List ℕ
 s₄ c = s₃ (c .before .before .before)
@@ -113,7 +113,7 @@ returns-2 c =
 returns-3 : tie.Need-returns-3
 returns-3 c =
     let p = c .before .before .before in
-    fields₃ (s₂ p) (name (p .before .before .before .before)) (description p) (subst (Holds 4 (s₂ p) (b p)) (c .enum-told3 .given .1) (c .before .before .item-of .ensures))
+    fields₃ (s₂ p) (name (p .before .before .before .before)) (description p) (subst (ItemEnds 4 (s₂ p) (b p)) (c .enum-told3 .given .1) (c .before .before .item-of .ensures))
 
 returns-4 : tie.Need-returns-4
 returns-4 c =

@@ -1,7 +1,7 @@
 -- A span that is there, or none. Assumes nothing.
 use borrow.Author.Needs.{needs}
 use mathlib.Core.Path.{sym, ap}
-use Rattle.record.specs.Jobs.{spanOf}
+use Rattle.record.specs.Contract.{spanOf}
 use Rattle.record.proofs.found.Statement.{statement}
 use Rattle.record.proofs.found.Tie as tie
 

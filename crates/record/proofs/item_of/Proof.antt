@@ -5,7 +5,7 @@ use Rattle.record.proofs.item_of.Tie as tie
 use mathlib.Core.Path.{sym, _∙_}
 use Prim.Native.Nat.{_-_}
 use lib.ListN.{drop}
-use Rattle.record.specs.Headers.{no-content-at, content-here, content-other}
+use Rattle.record.proofs.Headers.{no-content-at, content-here, content-other}
 use Rattle.item.proofs.Headers.{no-header}
 
 returns : tie.Need-returns

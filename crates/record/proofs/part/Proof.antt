@@ -3,7 +3,7 @@ use borrow.Author.Needs.{needs}
 use Rattle.record.proofs.part.Statement.{statement}
 use Rattle.record.proofs.part.Tie as tie
 use native.Mathlib.Omega.{arith}
-use Rattle.record.specs.Headers.{part-past, part-turned, part-inside}
+use Rattle.record.proofs.Headers.{part-past, part-turned, part-inside}
 use mathlib.Core.Path.{sym}
 
 returns : tie.Need-returns

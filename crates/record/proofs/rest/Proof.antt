@@ -6,12 +6,12 @@ use native.Mathlib.Omega.{arith}
 use mathlib.Core.List.{List}
 use mathlib.Core.Bool.{true}
 use borrow.Author.Tests.{not-true, not-false}
-use Rattle.value.specs.Turns.{part-small}
+use Rattle.value.proofs.Invariants.{part-small}
 use Rattle.value.specs.Walks.{Read, Walks}
 use Rattle.record.specs.Read.{fieldOf, asItems}
-use Rattle.record.specs.Agree.{Held, Holds, areDefaults}
-use Rattle.record.specs.Views.{items-walks}
-use Rattle.record.specs.Chains.{inPart, rest₁, rest₂, rest₃, rest₄, rest₅, rest₆}
+use Rattle.record.specs.Contract.{ItemAt, ItemEnds, areDefaults}
+use Rattle.record.proofs.Views.{items-walks}
+use Rattle.record.proofs.Chains.{inPart, rest₁, rest₂, rest₃, rest₄, rest₅, rest₆}
 use Rattle.record.proofs.rest.Statement.{statement}
 use Rattle.record.proofs.rest.Tie as tie
 use Rattle.record.proofs.rest.Reads as reads
@@ -46,8 +46,8 @@ at c = c .before .before .before .before .before .args .at
 abbrev a : Pair → ℕ
 a c = c .before .pair .given .0 .0
 
-pair : (c : Pair) → Held 17 (s₁ c) (at c) (a c)
-pair c = subst (Holds 17 (s₁ c) (at c)) (c .before .pair .given .1) (c .before .before .before .item-of .ensures)
+pair : (c : Pair) → ItemAt 17 (s₁ c) (at c) (a c)
+pair c = subst (ItemEnds 17 (s₁ c) (at c)) (c .before .pair .given .1) (c .before .before .before .item-of .ensures)
 
 abbrev s₂ : Timed → List ℕ
 s₂ c = s₁ (c .before .before .before)
@@ -79,15 +79,15 @@ from c = b (c .before .before .before .before)
 abbrev to : Steps → ℕ
 to c = c .before .list .given .0 .0
 
-list : (c : Steps) → Held 18 (s₄ c) (from c) (to c)
-list c = subst (Holds 18 (s₄ c) (from c)) (c .before .list .given .1) (c .before .before .before .item-of2 .ensures)
+list : (c : Steps) → ItemAt 18 (s₄ c) (from c) (to c)
+list c = subst (ItemEnds 18 (s₄ c) (from c)) (c .before .list .given .1) (c .before .before .before .item-of2 .ensures)
 
 -- ---- the needs
 
 returns : tie.Need-returns
 returns c =
     let x = c .before .before .before .before .args in
-    rest₁ (x .s .now) (x .at) (subst (Holds 17 (x .s .now) (x .at)) (c .enum-told .given .1) (c .before .before .item-of .ensures))
+    rest₁ (x .s .now) (x .at) (subst (ItemEnds 17 (x .s .now) (x .at)) (c .enum-told .given .1) (c .before .before .item-of .ensures))
 
 returns-2 : tie.Need-returns-2
 returns-2 c =
@@ -107,7 +107,7 @@ returns-4 c =
     let f = c .before .before .before in
     let t = f .before .before .before .before in
     let p = t .before .before .before in
-    rest₄ (s₃ f) (at p) (pair p) (timed t) (fail-on f) (subst (Holds 18 (s₃ f) (b f)) (c .enum-told3 .given .1) (c .before .before .item-of2 .ensures))
+    rest₄ (s₃ f) (at p) (pair p) (timed t) (fail-on f) (subst (ItemEnds 18 (s₃ f) (b f)) (c .enum-told3 .given .1) (c .before .before .item-of2 .ensures))
 
 returns-5 : tie.Need-returns-5
 returns-5 c =

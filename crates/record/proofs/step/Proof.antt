@@ -4,9 +4,10 @@ use mathlib.Core.Path.{sym, ap, _∙_}
 use Prim.Native.Nat.{_-_}
 use native.Mathlib.Omega.{arith}
 use Rattle.entries.proofs.Counting.{nth-fits}
-use Rattle.record.specs.Jobs.{answerOf, spanOf}
-use Rattle.record.specs.Lookups.{step-zero, step-refused}
-use Rattle.record.specs.Answers.{opened-as, step-out, step-in, last-found, never-nothing}
+use Rattle.record.specs.Jobs.{answerOf}
+use Rattle.record.specs.Contract.{spanOf}
+use Rattle.record.proofs.Lookups.{step-zero, step-refused}
+use Rattle.record.proofs.Answers.{opened-as, step-out, step-in, last-found, never-nothing}
 use Rattle.record.proofs.step.Statement.{statement}
 use Rattle.record.proofs.step.Tie as tie
 

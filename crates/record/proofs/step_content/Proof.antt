@@ -8,14 +8,14 @@ use mathlib.Core.Bool.{false}
 use mathlib.Core.Option.{none, some}
 use lib.ListN.{length, drop}
 use Rattle.refusal.specs.Base.{oneOf}
-use Rattle.value.specs.Contents.{bytes-of}
+use Rattle.value.proofs.Contents.{bytes-of}
 use Rattle.value.specs.Walks.{Read, Walks}
 use Rattle.value.specs.declared.End.{End}
 use Rattle.meaning.specs.Meaning.{stepFields}
 use Rattle.record.specs.Read.{fieldOf, asText, asOptional, asFlag, asCommand, asExpect}
-use Rattle.record.specs.Agree.{ofKind, expectKind, isStep}
-use Rattle.record.specs.Views.{text-walks, optional-walks, flag-walks, expect-walks, tree-walks, no-command, command, no-text, text-part}
-use Rattle.record.specs.Chains.{inPart, step₁, step₂, step₃, step₄, step₅, step₆, step₇, step₈}
+use Rattle.record.specs.Contract.{ofKind, expectKind, isStep}
+use Rattle.record.proofs.Views.{text-walks, optional-walks, flag-walks, expect-walks, tree-walks, no-command, command, no-text, text-part}
+use Rattle.record.proofs.Chains.{inPart, step₁, step₂, step₃, step₄, step₅, step₆, step₇, step₈}
 use Rattle.record.proofs.step_content.Statement.{statement}
 use Rattle.record.proofs.step_content.Tie as tie
 use Rattle.record.proofs.step_content.Reads as reads

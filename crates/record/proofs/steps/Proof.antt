@@ -6,11 +6,11 @@ use native.Mathlib.Omega.{arith}
 use mathlib.Core.List.{List}
 use lib.ListN.{length}
 use borrow.Author.Tests.{not-true, not-false}
-use Rattle.value.specs.Turns.{part-small}
+use Rattle.value.proofs.Invariants.{part-small}
 use Rattle.record.specs.Read.{inItem, stepIn}
-use Rattle.record.specs.Agree.{Held, Holds}
-use Rattle.record.specs.Turns.{Left, left-start}
-use Rattle.record.specs.Chains.{steps-end, steps-item, steps-fail, steps-next}
+use Rattle.record.specs.Contract.{ItemAt, ItemEnds}
+use Rattle.record.proofs.Invariants.{Left, left-start}
+use Rattle.record.proofs.Chains.{steps-end, steps-item, steps-fail, steps-next}
 use Rattle.record.proofs.steps.Statement.{statement}
 use Rattle.record.proofs.steps.Tie as tie
 use Rattle.record.proofs.steps.Reads as reads
@@ -37,8 +37,8 @@ from c = c .before .before .before .before .before .loop .at
 abbrev to : Item → ℕ
 to c = c .before .end .given .0 .0
 
-held : (c : Item) → Held 19 (s c) (from c) (to c)
-held c = subst (Holds 19 (s c) (from c)) (c .before .end .given .1) (c .before .before .before .item-of .ensures)
+held : (c : Item) → ItemAt 19 (s c) (from c) (to c)
+held c = subst (ItemEnds 19 (s c) (from c)) (c .before .end .given .1) (c .before .before .before .item-of .ensures)
 
 abbrev left : (c : Item) → Left (inItem 19 stepIn) (s c) (from c) (c .before .before .before .before .before .loop .count)
 left c = c .before .before .before .before .before .loop .inv .2
@@ -46,7 +46,7 @@ left c = c .before .before .before .before .before .loop .inv .2
 returns : tie.Need-returns Inv-loop μ-loop
 returns c =
     let l = c .before .before .before .before .loop in
-    steps-item (l .inv .2) (c .before .before .before .loop-test .taken) (subst (Holds 19 (c .before .before .before .before .before .before .args .s .now) (l .at)) (c .enum-told .given .1) (c .before .before .item-of .ensures))
+    steps-item (l .inv .2) (c .before .before .before .loop-test .taken) (subst (ItemEnds 19 (c .before .before .before .before .before .before .args .s .now) (l .at)) (c .enum-told .given .1) (c .before .before .item-of .ensures))
 
 returns-2 : tie.Need-returns-2 Inv-loop μ-loop
 returns-2 c =

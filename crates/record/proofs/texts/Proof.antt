@@ -8,9 +8,9 @@ use native.Mathlib.Omega.{arith}
 use lib.ListN.{length}
 use Rattle.value.specs.Walks.{Walks}
 use Rattle.record.specs.Read.{fieldOf, asText}
-use Rattle.record.specs.Views.{text-walks}
-use Rattle.record.specs.Turns.{Left, left-start, left-next}
-use Rattle.record.specs.Chains.{texts-end, texts-fail}
+use Rattle.record.proofs.Views.{text-walks}
+use Rattle.record.proofs.Invariants.{Left, left-start, left-next}
+use Rattle.record.proofs.Chains.{texts-end, texts-fail}
 
 abbrev Inv-loop : tie.InvT-loop
 Inv-loop s at₀ at = (at ≤ length s) × ((n : ℕ) × Left (fieldOf asText 0) s at n)

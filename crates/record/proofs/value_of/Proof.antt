@@ -6,10 +6,10 @@ use mathlib.Core.Path.{sym, _∙_}
 use Prim.Native.Nat.{_-_}
 use lib.ListN.{drop}
 use Rattle.item.proofs.Headers.{header-item, no-header as no-item-there}
-use Rattle.value.specs.Contents.{no-header}
-use Rattle.record.specs.Agree.{ofKind}
-use Rattle.record.specs.Views.{no-field, of-kind, other-kind}
-use Rattle.record.specs.Headers.{either-one, either-other, neither}
+use Rattle.value.proofs.Contents.{no-header}
+use Rattle.record.specs.Contract.{ofKind}
+use Rattle.record.proofs.Views.{no-field, of-kind, other-kind}
+use Rattle.record.proofs.Headers.{either-one, either-other, neither}
 
 returns : tie.Need-returns
 returns c = let a = (c .before .before .before .args) in no-field (ofKind (a .one) (a .other)) (a .levels) (drop (a .at) (a .s .now)) (no-header (a .levels) (drop (a .at) (a .s .now)) (no-item-there (a .s .now) (a .at) (c .before .header-at .result) (c .before .header-at .ensures) (c .match .keys2)))

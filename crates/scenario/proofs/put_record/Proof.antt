@@ -6,8 +6,8 @@ use Rattle.lines.specs.Table.{tableLines}
 use Rattle.meaning.specs.Record.{stepsItem}
 use Rattle.meaning.specs.Meanings.{stepsFrom, topOf}
 use Rattle.step_lines.specs.StepLines.{stepLines}
-use Rattle.top.specs.Agree.{AgreesTop, TopInside}
-use Rattle.scenario.specs.Agree.{AgreesSteps, EndsBehind}
+use Rattle.top.specs.Contract.{AgreesTop, TopInside}
+use Rattle.scenario.specs.Contract.{AgreesSteps, EndsBehind}
 use Rattle.scenario.proofs.Writing.{top-refused, steps-refused, record-wrote}
 use Rattle.scenario.proofs.put_record.Statement.{statement}
 use Rattle.scenario.proofs.put_record.Tie as tie

@@ -10,8 +10,8 @@ use Rattle.step_lines.specs.StepLines.{stepLines, dashesAt}
 use Rattle.entries.specs.Entries.{Holds}
 use Rattle.entries.proofs.Counting.{spanned}
 use Rattle.entries.proofs.Walking.{item-turn, no-item}
-use Rattle.nodes.specs.Agree.{PartNear}
-use Rattle.scenario.proofs.Turns.{Walked, walk-start, walk-refused, walk-on, walk-done}
+use Rattle.nodes.specs.Contract.{PartNear}
+use Rattle.scenario.proofs.Invariants.{Walked, walk-start, walk-refused, walk-on, walk-done}
 use Rattle.scenario.proofs.put_steps.Statement.{statement}
 use Rattle.scenario.proofs.put_steps.Tie as tie
 

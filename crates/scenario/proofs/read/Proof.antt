@@ -5,8 +5,8 @@ use native.Mathlib.Omega.{arith}
 use lib.ListN.{length}
 use Rattle.lines.specs.Table.{tableLines}
 use Rattle.step_lines.specs.StepLines.{stepLines}
-use Rattle.tree.specs.Sound.{tree-integers}
-use Rattle.tree.specs.Reading.{read-lined-is, read-stopped}
+use Rattle.tree.proofs.Sound.{tree-integers}
+use Rattle.tree.proofs.Reading.{read-lined-is, read-stopped}
 use Rattle.scenario.proofs.Reading.{tree-stands, record-written, record-stopped, scenario-untree, scenario-unread, scenario-few, scenario-long, wrote-all}
 use Rattle.scenario.proofs.read.Statement.{statement}
 use Rattle.scenario.proofs.read.Tie as tie

@@ -5,8 +5,7 @@ use Prim.Native.Nat.{_≤_}
 use native.Mathlib.Omega.{arith}
 use lib.ListN.{length}
 use lib.Seq.{length-take-le}
-use Rattle.scenario.specs.Scenario.{scenario, treeBytes, recordBytes, stepNumbers}
-use Rattle.scenario.specs.Agree.{answerOf}
+use Rattle.scenario.specs.Scenario.{scenario, treeBytes, recordBytes, stepNumbers, answerOf}
 use Rattle.scenario.proofs.Reading.{lent-is, told-is, tree-out, record-out, lines-out, zeros-out}
 use Rattle.scenario.proofs.read_scenario.Statement.{statement}
 use Rattle.scenario.proofs.read_scenario.Tie as tie

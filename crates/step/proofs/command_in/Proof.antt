@@ -2,7 +2,7 @@
 use borrow.Author.Needs.{needs}
 use mathlib.Core.Path.{subst}
 use Rattle.meaning.specs.Meanings.{commands}
-use Rattle.step.specs.Agree.{FirstInside, AgreesFirst}
+use Rattle.step.specs.Contract.{FirstInside, AgreesFirst}
 use Rattle.step.proofs.Commands.{no-command, one-command, two-commands}
 use Rattle.step.proofs.command_in.Statement.{statement}
 use Rattle.step.proofs.command_in.Tie as tie

@@ -4,7 +4,7 @@ use mathlib.Core.Path.{sym, ap, _∙_, subst}
 use mathlib.Core.Bool.{Bool, not}
 use Rattle.refusal.specs.Base.{ensure}
 use Rattle.entries.specs.Entries.{Finds}
-use Rattle.step.specs.Agree.{mapping}
+use Rattle.step.specs.Contract.{mapping}
 use Rattle.step.proofs.Steps.{nothing-expected, something-expected}
 use Rattle.step.proofs.expect_allowed.Statement.{statement}
 use Rattle.step.proofs.expect_allowed.Tie as tie

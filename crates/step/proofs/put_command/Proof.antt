@@ -5,7 +5,7 @@ use mathlib.Core.Path.{_∙_}
 use Prim.Native.Nat.{_-_, _≤_}
 use lib.ListN.{length, take, drop}
 use Rattle.refusal.specs.Base.{maybe}
-use Rattle.item.specs.Size.{item-length}
+use Rattle.item.proofs.Size.{item-length}
 use Rattle.nodes.proofs.Storing.{stored-then}
 use Rattle.step.proofs.Writing.{key-stored, value-found}
 use Rattle.step.proofs.put_command.Statement.{statement}

@@ -4,7 +4,7 @@ use native.Mathlib.Omega.{arith}
 use Prim.Native.Nat.{_+_, _<_}
 use lib.ListN.{length}
 use Rattle.item.specs.Tree.{bool}
-use Rattle.item.specs.Size.{encode-size}
+use Rattle.item.proofs.Size.{encode-size}
 use Rattle.step.proofs.put_flag.Statement.{statement}
 use Rattle.step.proofs.put_flag.Tie as tie
 

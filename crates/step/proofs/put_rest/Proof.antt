@@ -3,7 +3,7 @@ use borrow.Author.Needs.{needs}
 use native.Mathlib.Omega.{arith}
 use mathlib.Core.Path.{_∙_}
 use Rattle.item.specs.Tree.{bool}
-use Rattle.item.specs.Size.{encode-size}
+use Rattle.item.proofs.Size.{encode-size}
 use Rattle.nodes.proofs.Storing.{stored-then, optional-stored}
 use Rattle.step.proofs.Writing.{flag-stored, expected-stored}
 use Rattle.step.proofs.put_rest.Statement.{statement}

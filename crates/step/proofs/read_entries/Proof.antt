@@ -5,7 +5,7 @@ use mathlib.Core.Path.{subst}
 use Rattle.refusal.specs.Base.{bytes}
 use Rattle.item.specs.Tree.{get}
 use Rattle.meaning.specs.Meanings.{commands}
-use Rattle.step.specs.Agree.{AgreesExpect, AgreesCommand, CommandInside}
+use Rattle.step.specs.Contract.{AgreesExpect, AgreesCommand, CommandInside}
 use Rattle.step.proofs.Steps.{step-33, step-34, step-35, step-read}
 use Rattle.step.proofs.read_entries.Statement.{statement}
 use Rattle.step.proofs.read_entries.Tie as tie

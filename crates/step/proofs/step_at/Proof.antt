@@ -1,7 +1,7 @@
 -- The reading, then what is written of it. Assumes nothing.
 use borrow.Author.Needs.{needs}
 use mathlib.Core.Path.{refl, subst}
-use Rattle.step.specs.Agree.{AgreesRead, ReadInside}
+use Rattle.step.specs.Contract.{AgreesRead, ReadInside}
 use Rattle.step.proofs.step_at.Statement.{statement}
 use Rattle.step.proofs.step_at.Tie as tie
 

@@ -6,7 +6,7 @@ use native.Mathlib.Omega.{arith}
 use lib.ListN.{drop}
 use Rattle.lines.specs.Table.{tableLines}
 use Rattle.step_lines.specs.StepLines.{behindSteps}
-use Rattle.step_lines.specs.Laws.{steps-here, steps-on, steps-none}
+use Rattle.step_lines.proofs.Laws.{steps-here, steps-on, steps-none}
 use Rattle.step_lines.proofs.behind_steps.Statement.{statement}
 use Rattle.step_lines.proofs.behind_steps.Tie as tie
 

@@ -1,7 +1,7 @@
 -- By whether a line stands behind that of the steps. Assumes nothing.
 use borrow.Author.Needs.{needs}
 use native.Mathlib.Omega.{arith}
-use Rattle.step_lines.specs.Laws.{begins-none, begins-at}
+use Rattle.step_lines.proofs.Laws.{begins-none, begins-at}
 use Rattle.step_lines.proofs.first_dash.Statement.{statement}
 use Rattle.step_lines.proofs.first_dash.Tie as tie
 

@@ -5,7 +5,7 @@ use Prim.Native.Nat.{ℕ}
 use mathlib.Core.List.{List}
 use Rattle.refusal.specs.Base.{bytes, same}
 use Rattle.lines.specs.Table.{lineAt}
-use Rattle.step_lines.specs.Laws.{no-steps, are-steps}
+use Rattle.step_lines.proofs.Laws.{no-steps, are-steps}
 use Rattle.step_lines.proofs.is_steps.Statement.{statement}
 use Rattle.step_lines.proofs.is_steps.Tie as tie
 

@@ -6,7 +6,7 @@ use native.Mathlib.Omega.{arith}
 use lib.ListN.{drop}
 use Rattle.lines.specs.Table.{tableLines}
 use Rattle.step_lines.specs.StepLines.{dashesAt}
-use Rattle.step_lines.specs.Laws.{dash-on, next-ended, next-none, next-here}
+use Rattle.step_lines.proofs.Laws.{dash-on, next-ended, next-none, next-here}
 use Rattle.step_lines.proofs.next_dash.Statement.{statement}
 use Rattle.step_lines.proofs.next_dash.Tie as tie
 

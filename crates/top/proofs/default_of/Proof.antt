@@ -2,7 +2,7 @@
 use borrow.Author.Needs.{needs}
 use mathlib.Core.Path.{sym, _∙_}
 use Rattle.refusal.specs.Base.{bytes, if_then_else_}
-use Rattle.top.specs.Agree.{defaultKey}
+use Rattle.top.specs.Contract.{defaultKey}
 use Rattle.top.proofs.default_of.Statement.{statement}
 use Rattle.top.proofs.default_of.Tie as tie
 

@@ -3,7 +3,7 @@ use borrow.Author.Needs.{needs}
 use mathlib.Core.Path.{subst}
 use Rattle.refusal.specs.Base.{Answer}
 use Rattle.meaning.specs.Meaning.{Defaults}
-use Rattle.top.specs.Agree.{AgreesDefaults}
+use Rattle.top.specs.Contract.{AgreesDefaults}
 use Rattle.top.proofs.DefaultKeys.{defaults-empty, defaults-other, defaults-mapped, mapped-is}
 use Rattle.top.proofs.defaults_of.Statement.{statement}
 use Rattle.top.proofs.defaults_of.Tie as tie

@@ -8,7 +8,7 @@ use Rattle.item.specs.Tree.{Items}
 use Rattle.entries.specs.Entries.{Holds}
 use Rattle.entries.proofs.Counting.{spanned}
 use Rattle.entries.proofs.Walking.{item-turn, no-item}
-use Rattle.nodes.specs.Agree.{RendersNear}
+use Rattle.nodes.specs.Contract.{RendersNear}
 use Rattle.top.proofs.Tags.{TagsRest, tags-start, tag-on, no-tag-on, tags-done}
 use Rattle.top.proofs.put_tags.Statement.{statement}
 use Rattle.top.proofs.put_tags.Tie as tie

@@ -5,7 +5,7 @@ use borrow.Author.Tests.{not-true, not-false}
 use Rattle.refusal.specs.Base.{bytes}
 use Rattle.item.specs.Tree.{get}
 use Rattle.meaning.specs.Meanings.{defaultsOf}
-use Rattle.top.specs.Agree.{scalarOf, AgreesScalar, AgreesSequence, SequenceInside, AgreesDefaults, DefaultsInside}
+use Rattle.top.specs.Contract.{scalarOf, AgreesScalar, AgreesSequence, SequenceInside, AgreesDefaults, DefaultsInside}
 use Rattle.top.proofs.Parts.{top-25, top-26, top-27, top-defaults, top-31, top-read}
 use Rattle.top.proofs.read_fields.Statement.{statement}
 use Rattle.top.proofs.read_fields.Tie as tie

@@ -4,7 +4,7 @@ use mathlib.Core.Path.{sym, subst, _∙_}
 use borrow.Author.Tests.{not-true, not-false}
 use Rattle.refusal.specs.Base.{bytes}
 use Rattle.item.specs.Tree.{get}
-use Rattle.top.specs.Agree.{scalarOf, KnownKeys, AgreesScalar}
+use Rattle.top.specs.Contract.{scalarOf, KnownKeys, AgreesScalar}
 use Rattle.top.proofs.Parts.{front-value, top-21, root, top-22, top-24, top-23, passed}
 use Rattle.top.proofs.read_top.Statement.{statement}
 use Rattle.top.proofs.read_top.Tie as tie

@@ -6,8 +6,8 @@ use native.Mathlib.Omega.{arith}
 use lib.ListN.{length}
 use lib.Seq.{length-take-le}
 use Rattle.tree.specs.declared.TreeRead.{TreeRead}
-use Rattle.tree.specs.Agree.{answerOf}
-use Rattle.tree.specs.Reading.{plain, agrees-plain, same-work, told-size, told-bytes, told-zeros}
+use Rattle.tree.specs.Tree.{answerOf}
+use Rattle.tree.proofs.Reading.{plain, agrees-plain, same-work, told-size, told-bytes, told-zeros}
 use Rattle.tree.proofs.read_tree.Statement.{statement}
 use Rattle.tree.proofs.read_tree.Tie as tie
 

@@ -5,8 +5,8 @@ use native.Mathlib.Omega.{arith}
 use Prim.Native.Nat.{_≤_}
 use lib.ListN.{length}
 use borrow.Author.Tests.{not-true, not-false}
-use Rattle.lines.specs.Ends.{ready}
-use Rattle.tree.specs.Reading.{tree-long, tree-bytes, tree-unlined, tree-lined, lines-read, lines-stopped, tree-read, tree-stopped, read-lined}
+use Rattle.lines.proofs.Ends.{ready}
+use Rattle.tree.proofs.Reading.{tree-long, tree-bytes, tree-unlined, tree-lined, lines-read, lines-stopped, tree-read, tree-stopped, read-lined}
 use Rattle.tree.proofs.read_with.Statement.{statement}
 use Rattle.tree.proofs.read_with.Tie as tie
 

@@ -5,9 +5,9 @@ use Prim.Native.Nat.{ℕ}
 use native.Mathlib.Omega.{arith}
 use Rattle.refusal.specs.Base.{refused}
 use Rattle.lines.specs.Table.{tableLines, lineAt}
-use Rattle.lines.specs.Rows.{rows-end, in-table, rows-next}
-use Rattle.block.specs.Steps.{block-done, block-stopped}
-use Rattle.tree.specs.Reading.{tree-stops, tree-whole, tree-rest}
+use Rattle.lines.proofs.Rows.{rows-end, in-table, rows-next}
+use Rattle.block.proofs.Cases.{block-done, block-stopped}
+use Rattle.tree.proofs.Reading.{tree-stops, tree-whole, tree-rest}
 use Rattle.tree.proofs.tree_of.Statement.{statement}
 use Rattle.tree.proofs.tree_of.Tie as tie
 

@@ -4,7 +4,7 @@ use lib.Dec.{leb}
 use borrow.Author.Tests.{ne-eqb, le-leb}
 use Rattle.utf8.specs.Utf8.{_‥_, within}
 use Rattle.utf8.specs.White.{in2000}
-use Rattle.utf8.specs.Ranges.{inside, below, above, or-false}
+use Rattle.utf8.proofs.Ranges.{inside, below, above, or-false}
 use Rattle.utf8.proofs.in_2000.Statement.{statement}
 use Rattle.utf8.proofs.in_2000.Tie as tie
 

@@ -4,7 +4,7 @@ use mathlib.Core.Path.{_≡_, refl, sym, ap, _∙_}
 use Prim.Native.Nat.{_+_, _-_, _≤_}
 use lib.ListN.{length, drop}
 use Rattle.utf8.specs.Utf8.{utf8From, isUtf8}
-use Rattle.utf8.specs.Steps.{dueOf, goesOn}
+use Rattle.utf8.specs.Contract.{dueOf, goesOn}
 use Rattle.utf8.specs.declared.Step.{Step}
 use Rattle.utf8.proofs.Rows.{ended, turned}
 use Rattle.utf8.proofs.is_utf8.Statement.{statement}

@@ -3,7 +3,7 @@ use lib.Dec.{leb}
 use borrow.Author.Tests.{ne-eqb, le-leb}
 use Rattle.utf8.specs.Utf8.{_‥_, within}
 use Rattle.utf8.specs.White.{white1}
-use Rattle.utf8.specs.Ranges.{below, or-false}
+use Rattle.utf8.proofs.Ranges.{below, or-false}
 use Rattle.utf8.proofs.one_byte.Statement.{statement}
 use Rattle.utf8.proofs.one_byte.Tie as tie
 

@@ -3,7 +3,7 @@ use borrow.Author.Needs.{needs}
 use lib.Dec.{eqb}
 use borrow.Author.Tests.{ne-eqb}
 use Rattle.utf8.specs.White.{white3, in2000}
-use Rattle.utf8.specs.Ranges.{or-false}
+use Rattle.utf8.proofs.Ranges.{or-false}
 use Rattle.utf8.proofs.three_bytes.Statement.{statement}
 use Rattle.utf8.proofs.three_bytes.Tie as tie
 

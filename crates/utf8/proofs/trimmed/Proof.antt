@@ -4,7 +4,7 @@ use mathlib.Core.Path.{sym, ap, _∙_}
 use native.Mathlib.Omega.{arith}
 use lib.ListN.{length}
 use Rattle.utf8.specs.White.{trim}
-use Rattle.utf8.specs.Laws.{part-all, part-length, trim-part}
+use Rattle.utf8.proofs.Laws.{part-all, part-length, trim-part}
 use Rattle.utf8.proofs.trimmed.Statement.{statement}
 use Rattle.utf8.proofs.trimmed.Tie as tie
 

@@ -1,4 +1,4 @@
--- The readers of a value, an entry and the two collections, which call each other: the levels fall. Each return is a law of `Contents` or `Turns`. Assumes nothing.
+-- The readers of a value, an entry and the two collections, which call each other: the levels fall. Each return is a law of `Contents` or `Invariants`. Assumes nothing.
 use Prim.Native.Nat.{ℕ, _<_, _+_, _*_, _-_, _≤_}
 use borrow.Fn.Kinds.{In}
 use borrow.Fn.PlainCycle.{Measures, is, falls, and}
@@ -32,14 +32,15 @@ use mathlib.Core.Option.{some}
 use lib.ListN.{length, drop, length-drop, take}
 use borrow.Author.Tests.{not-true, not-false}
 use Rattle.item.specs.Decode.{header}
-use Rattle.item.specs.Exact.{bytes-drop, Bytes}
+use Rattle.item.proofs.Exact.{bytes-drop}
+use Rattle.item.specs.Encode.{Bytes}
 use Rattle.item.specs.Places.{headerAt}
 use Rattle.item.specs.declared.Header.the-variants.{Item}
 use Rattle.item.proofs.Headers.{spans, Spans, header-item, no-header as no-item-there}
 use Rattle.value.specs.Tree.{tree, accepts}
 use Rattle.value.specs.Walks.{Walks, Follows, Read}
-use Rattle.value.specs.Contents.{bytes-of, sequence-content, mapping-content, too-deep, no-kind, no-header, content-refused, content-taken}
-use Rattle.value.specs.Turns.{Items-left, items-start, items-end, items-next, items-fail, Entries-left, entries-start, entries-end, entries-next, entries-fail, no-key, other-kind, key-not-utf8, value-refused, key-again, key-new, whole-rest, part-small}
+use Rattle.value.proofs.Contents.{bytes-of, sequence-content, mapping-content, too-deep, no-kind, no-header, content-refused, content-taken}
+use Rattle.value.proofs.Invariants.{Items-left, items-start, items-end, items-next, items-fail, Entries-left, entries-start, entries-end, entries-next, entries-fail, no-key, other-kind, key-not-utf8, value-refused, key-again, key-new, whole-rest, part-small}
 
 abbrev μ-entries : Measures 1 entries-kinds.ps ℕ
 μ-entries κs a = 4 * a .1 .0 + 3

@@ -3,7 +3,7 @@ use borrow.Author.Needs.{needs}
 use Rattle.value.proofs.flag.Statement.{statement}
 use Rattle.value.proofs.flag.Tie as tie
 use mathlib.Core.Path.{sym}
-use Rattle.value.specs.Contents.{flag-size, flag-byte}
+use Rattle.value.proofs.Contents.{flag-size, flag-byte}
 
 returns : tie.Need-returns
 returns c = sym (flag-size _ (λ e. (c .if1 .taken) e))

@@ -6,7 +6,7 @@ use mathlib.Core.Path.{_≡_, sym, ap, _∙_}
 use native.Mathlib.Omega.{arith}
 use Prim.Native.Nat.{ℕ}
 use Rattle.value.specs.Tree.{accepts}
-use Rattle.value.specs.Contents.{bytes-of, null-content, flag-content, int-content, string-content}
+use Rattle.value.proofs.Contents.{bytes-of, null-content, flag-content, int-content, string-content}
 
 returns : tie.Need-returns
 returns c = let a = (c .before .before .args) in sym (ap (λ (k : ℕ). accepts (a .levels) k (a .content .now)) (c .if1 .taken) ∙ null-content (a .levels) (a .content .now))

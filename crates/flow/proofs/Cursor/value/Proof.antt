@@ -44,7 +44,7 @@ use denote.Triple.Table.{entered, cited}
 use denote.Triple.Walked.{says, needs, Stays, stay-none, gave-slice, walkOf, goes-none, goes-gave-slice, Walks, ends-at, walked, walk-meets}
 use denote.Exit.{yes}
 use denote.Triple.Clauses.{ensured, lasts}
-use Rattle.scalar.specs.Agree.{Agrees}
+use Rattle.scalar.specs.Contract.{Agrees}
 use Rattle.scalar.specs.declared.Parsed.{Parsed}
 use Rattle.scalar.specs.declared.Role.{Role}
 use Rattle.scalar.proofs.Parsed as P

@@ -5,7 +5,7 @@ use Prim.Native.Nat.{_+_, _≤_, _<_}
 use mathlib.Core.Path.{_≡_}
 use lib.ListN.{length}
 use Rattle.scalar.specs.Scalars.{decimalOf}
-use Rattle.scalar.specs.NumberLaws.{decimal-twenty, length-one, length-more}
+use Rattle.scalar.proofs.NumberLaws.{decimal-twenty, length-one, length-more}
 use Rattle.scalar.proofs.integers.decimal_len.Statement.{statement}
 use Rattle.scalar.proofs.integers.decimal_len.Tie as tie
 

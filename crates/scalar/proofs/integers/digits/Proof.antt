@@ -6,7 +6,7 @@ use Prim.Native.Nat.{ℕ, _+_, _*_, _≤_, _-_}
 use lib.ListN.{length, drop}
 use Rattle.scalar.specs.Scalars.{digits}
 use Rattle.scalar.specs.Code.{bounded}
-use Rattle.scalar.specs.NumberLaws.{digitsFrom, digits-none, digits-start, from-low, from-high, from-over, from-on, from-end}
+use Rattle.scalar.proofs.NumberLaws.{digitsFrom, digits-none, digits-start, from-low, from-high, from-over, from-on, from-end}
 use Rattle.scalar.proofs.integers.digits.Statement.{statement}
 use Rattle.scalar.proofs.integers.digits.Tie as tie
 

@@ -1,6 +1,6 @@
 -- By the first byte. Assumes nothing.
 use mathlib.Core.Path.{sym, _∙_}
-use Rattle.scalar.specs.NumberLaws.{int-none, int-minus, int-plus, int-bare}
+use Rattle.scalar.proofs.NumberLaws.{int-none, int-minus, int-plus, int-bare}
 use borrow.Author.Needs.{needs}
 use Rattle.scalar.proofs.integers.integer.Statement.{statement}
 use Rattle.scalar.proofs.integers.integer.Tie as tie

@@ -6,7 +6,7 @@ use Prim.Native.Nat.{_+_, _≤_, _<_}
 use lib.ListN.{length, length-set}
 use lib.Seq.{sets}
 use Rattle.scalar.specs.Scalars.{decimalOf}
-use Rattle.scalar.specs.NumberLaws.{length-one, length-more, decimal-one, digit-back}
+use Rattle.scalar.proofs.NumberLaws.{length-one, length-more, decimal-one, digit-back}
 use Rattle.scalar.proofs.integers.put_decimal.Statement.{statement}
 use Rattle.scalar.proofs.integers.put_decimal.Tie as tie
 

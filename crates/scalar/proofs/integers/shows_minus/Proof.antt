@@ -1,5 +1,5 @@
 -- By the tests. Assumes nothing.
-use Rattle.scalar.specs.NumberLaws.{text-minus, text-bare}
+use Rattle.scalar.proofs.NumberLaws.{text-minus, text-bare}
 use Rattle.scalar.proofs.integers.shows_minus.Statement.{statement}
 use Rattle.scalar.proofs.integers.shows_minus.Tie as tie
 

@@ -2,7 +2,7 @@
 use borrow.Author.Needs.{needs}
 use mathlib.Core.Path.{_∙_}
 use denote.Ref.{now}
-use Rattle.scalar.specs.KeyLaws.{c-quoted, c-other, c-deep, c-behind, last-is, space-is}
+use Rattle.scalar.proofs.KeyLaws.{c-quoted, c-other, c-deep, c-behind, last-is, space-is}
 use Rattle.scalar.proofs.key.colon_at.Statement.{statement}
 use Rattle.scalar.proofs.key.colon_at.Tie as tie
 

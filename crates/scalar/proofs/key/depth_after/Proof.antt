@@ -3,7 +3,7 @@ use borrow.Author.Needs.{needs}
 use mathlib.Core.Path.{_≡_, _∙_}
 use Prim.Native.Nat.{ℕ, _-_}
 use native.Mathlib.Omega.{arith}
-use Rattle.scalar.specs.KeyLaws.{d-quoted, d-open, d-close, d-other}
+use Rattle.scalar.proofs.KeyLaws.{d-quoted, d-open, d-close, d-other}
 use Rattle.scalar.proofs.key.depth_after.Statement.{statement}
 use Rattle.scalar.proofs.key.depth_after.Tie as tie
 

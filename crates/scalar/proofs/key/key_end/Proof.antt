@@ -6,7 +6,7 @@ use Prim.Native.Nat.{_≤_, _-_}
 use lib.ListN.{length, drop}
 use Rattle.scalar.specs.Key.{keyEnd, keyEndFrom}
 use Rattle.scalar.specs.Code.{foundOf}
-use Rattle.scalar.specs.KeyLaws.{key-here, key-turn, depth-turn, key-end}
+use Rattle.scalar.proofs.KeyLaws.{key-here, key-turn, depth-turn, key-end}
 use Rattle.scalar.proofs.key.key_end.Statement.{statement}
 use Rattle.scalar.proofs.key.key_end.Tie as tie
 

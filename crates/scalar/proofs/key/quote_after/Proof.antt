@@ -1,5 +1,5 @@
 -- By the tests. Assumes nothing.
-use Rattle.scalar.specs.KeyLaws.{q-open, q-plain, q-close, q-stay}
+use Rattle.scalar.proofs.KeyLaws.{q-open, q-plain, q-close, q-stay}
 use Rattle.scalar.proofs.key.quote_after.Statement.{statement}
 use Rattle.scalar.proofs.key.quote_after.Tie as tie
 

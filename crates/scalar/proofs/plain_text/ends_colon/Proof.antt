@@ -1,7 +1,7 @@
 -- By the byte, where there is one. Assumes nothing.
 use native.Mathlib.Omega.{arith}
 use mathlib.Core.Path.{_∙_}
-use Rattle.scalar.specs.Laws.{colon-last, colon-space, colon-other}
+use Rattle.scalar.proofs.Laws.{colon-last, colon-space, colon-other}
 use borrow.Author.Needs.{needs}
 use Rattle.scalar.proofs.plain_text.ends_colon.Statement.{statement}
 use Rattle.scalar.proofs.plain_text.ends_colon.Tie as tie

@@ -1,5 +1,5 @@
 -- By the byte. Assumes nothing.
-use Rattle.scalar.specs.Laws.{ends-here, ends-not}
+use Rattle.scalar.proofs.Laws.{ends-here, ends-not}
 use Rattle.scalar.proofs.plain_text.ends_item.Statement.{statement}
 use Rattle.scalar.proofs.plain_text.ends_item.Tie as tie
 

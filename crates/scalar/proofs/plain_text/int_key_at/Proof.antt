@@ -5,8 +5,8 @@ use Prim.Native.Nat.{ℕ, _+_}
 use mathlib.Core.List.{List}
 use lib.Seq.{sets}
 use Rattle.item.specs.Encode.{head, signed}
-use Rattle.item.specs.Size.{item-length}
-use Rattle.item.specs.Runs.{sets-item}
+use Rattle.item.proofs.Size.{item-length}
+use Rattle.item.proofs.Runs.{sets-item}
 use Rattle.scalar.specs.Scalars.{intText}
 use borrow.Author.Needs.{needs}
 use Rattle.scalar.proofs.plain_text.int_key_at.Statement.{statement}

@@ -2,7 +2,7 @@
 use mathlib.Core.Path.{sym, _∙_}
 use mathlib.Core.Bool.{or-false}
 use Rattle.refusal.specs.Base.{bytes, oneOf}
-use Rattle.scalar.specs.Laws.{false-other}
+use Rattle.scalar.proofs.Laws.{false-other}
 use borrow.Author.Needs.{needs}
 use Rattle.scalar.proofs.plain_text.is_false.Statement.{statement}
 use Rattle.scalar.proofs.plain_text.is_false.Tie as tie

@@ -2,7 +2,7 @@
 use mathlib.Core.Path.{sym, _∙_}
 use mathlib.Core.Bool.{or-false}
 use Rattle.refusal.specs.Base.{bytes}
-use Rattle.scalar.specs.Laws.{null-empty, null-tilde, null-word, null-other}
+use Rattle.scalar.proofs.Laws.{null-empty, null-tilde, null-word, null-other}
 use borrow.Author.Needs.{needs}
 use Rattle.scalar.proofs.plain_text.is_null.Statement.{statement}
 use Rattle.scalar.proofs.plain_text.is_null.Tie as tie

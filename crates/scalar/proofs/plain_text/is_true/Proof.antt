@@ -2,7 +2,7 @@
 use mathlib.Core.Path.{sym, _∙_}
 use mathlib.Core.Bool.{or-false}
 use Rattle.refusal.specs.Base.{bytes, oneOf}
-use Rattle.scalar.specs.Laws.{true-other}
+use Rattle.scalar.proofs.Laws.{true-other}
 use borrow.Author.Needs.{needs}
 use Rattle.scalar.proofs.plain_text.is_true.Statement.{statement}
 use Rattle.scalar.proofs.plain_text.is_true.Tie as tie

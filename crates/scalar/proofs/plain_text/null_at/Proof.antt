@@ -1,7 +1,7 @@
 -- What is stored is what the definition reads. Assumes nothing.
 use Rattle.item.specs.Tree.{null}
-use Rattle.scalar.specs.Agree.{isKey}
-use Rattle.scalar.specs.Laws.{puts-agree}
+use Rattle.scalar.specs.Contract.{isKey}
+use Rattle.scalar.proofs.Laws.{puts-agree}
 use borrow.Author.Needs.{needs}
 use Rattle.scalar.proofs.plain_text.null_at.Statement.{statement}
 use Rattle.scalar.proofs.plain_text.null_at.Tie as tie

@@ -5,7 +5,7 @@ use mathlib.Core.List.{List}
 use lib.ListN.{length, drop}
 use Rattle.scalar.specs.Scalars.{scalarOf}
 use Rattle.scalar.specs.Read.{scalar}
-use Rattle.scalar.specs.Laws.{plain-part}
+use Rattle.scalar.proofs.Laws.{plain-part}
 use borrow.Author.Needs.{needs}
 use Rattle.scalar.proofs.plain_text.plain.Statement.{statement}
 use Rattle.scalar.proofs.plain_text.plain.Tie as tie

@@ -6,7 +6,7 @@ use mathlib.Core.Bool.{true}
 use Prim.Native.Nat.{_+_, _≤_, _-_}
 use lib.ListN.{length, drop, length-drop}
 use Rattle.scalar.specs.Code.{plainLen}
-use Rattle.scalar.specs.Laws.{plain-none, plain-here, plain-on, plain-top}
+use Rattle.scalar.proofs.Laws.{plain-none, plain-here, plain-on, plain-top}
 use Rattle.scalar.proofs.plain_text.plain_end.Statement.{statement}
 use Rattle.scalar.proofs.plain_text.plain_end.Tie as tie
 

@@ -6,8 +6,8 @@ use Rattle.item.specs.Tree.{bool}
 use Rattle.scalar.specs.declared.Role.the-variants.{AsValue}
 use Rattle.scalar.specs.Scalars.{boolText}
 use Rattle.scalar.specs.Read.{cost}
-use Rattle.scalar.specs.Agree.{written}
-use Rattle.scalar.specs.Laws.{written-cost}
+use Rattle.scalar.specs.Contract.{written}
+use Rattle.scalar.proofs.Laws.{written-cost}
 use borrow.Author.Needs.{needs}
 use Rattle.scalar.proofs.plain_text.put_bool_as.Statement.{statement}
 use Rattle.scalar.proofs.plain_text.put_bool_as.Tie as tie

@@ -3,9 +3,9 @@ use mathlib.Core.Path.{_≡_, sym, ap, _∙_}
 use Rattle.item.specs.Tree.{null, bool, int, str}
 use Rattle.item.specs.Encode.{signed}
 use Rattle.scalar.specs.Scalars.{scalarOf}
-use Rattle.scalar.specs.Agree.{isKey}
+use Rattle.scalar.specs.Contract.{isKey}
 use Rattle.scalar.specs.Code.{yamlOf}
-use Rattle.scalar.specs.Laws.{written-text, puts-agree}
+use Rattle.scalar.proofs.Laws.{written-text, puts-agree}
 use borrow.Author.Needs.{needs}
 use Rattle.scalar.proofs.plain_text.put_scalar.Statement.{statement}
 use Rattle.scalar.proofs.plain_text.put_scalar.Tie as tie

@@ -2,7 +2,7 @@
 use native.Mathlib.Omega.{arith}
 use mathlib.Core.Path.{refl}
 use Rattle.item.specs.Encode.{encode}
-use Rattle.item.specs.Size.{item-length}
+use Rattle.item.proofs.Size.{item-length}
 use borrow.Author.Needs.{needs}
 use Rattle.scalar.proofs.plain_text.text_at.Statement.{statement}
 use Rattle.scalar.proofs.plain_text.text_at.Tie as tie

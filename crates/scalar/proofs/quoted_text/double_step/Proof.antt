@@ -2,7 +2,7 @@
 use native.Mathlib.Omega.{arith}
 use mathlib.Core.Bool.{true, false}
 use Rattle.scalar.specs.Read.{doubleQuoted}
-use Rattle.scalar.specs.QuoteLaws.{double-open, double-shut, double-hid, double-byte, steps-behind}
+use Rattle.scalar.proofs.QuoteLaws.{double-open, double-shut, double-hid, double-byte, steps-behind}
 use borrow.Author.Needs.{needs}
 use Rattle.scalar.proofs.quoted_text.double_step.Statement.{statement}
 use Rattle.scalar.proofs.quoted_text.double_step.Tie as tie

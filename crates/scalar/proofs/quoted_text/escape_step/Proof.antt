@@ -1,7 +1,7 @@
 -- By what stands behind the `\`. Assumes nothing.
 use native.Mathlib.Omega.{arith}
 use mathlib.Core.Path.{sym, _∙_}
-use Rattle.scalar.specs.QuoteLaws.{escape-cut, escape-unknown, escape-byte, of-unknown, of-byte}
+use Rattle.scalar.proofs.QuoteLaws.{escape-cut, escape-unknown, escape-byte, of-unknown, of-byte}
 use borrow.Author.Needs.{needs}
 use Rattle.scalar.proofs.quoted_text.escape_step.Statement.{statement}
 use Rattle.scalar.proofs.quoted_text.escape_step.Tie as tie

@@ -8,13 +8,13 @@ use lib.ListN.{length, take, drop, length-set}
 use lib.Seq.{sets, take-length}
 use Rattle.refusal.specs.Base.{good}
 use Rattle.scalar.specs.Code.{quotedOf, Steps, Content}
-use Rattle.scalar.specs.QuoteLaws.{next-byte, stored-more, not-shut}
+use Rattle.scalar.proofs.QuoteLaws.{next-byte, stored-more, not-shut}
 use Rattle.scalar.proofs.quoted_text.put_bytes.Statement.{statement}
 use Rattle.scalar.proofs.quoted_text.put_bytes.Tie as tie
 use mathlib.Core.Logic.{⊎-elim}
 use types.Run.{OneOf}
 use denote.Enum.Declared.{tagOf}
-use Rattle.refusal.specs.Tools.{refused≢good}
+use Rattle.refusal.proofs.Tools.{refused≢good}
 use Rattle.scalar.specs.declared.quoted_text.Step.{Step}
 use Rattle.scalar.specs.declared.quoted_text.Step.the-variants.{Byte, Shut, Refused}
 use Rattle.scalar.proofs.quoted_text.Step.{the-type}

@@ -8,12 +8,12 @@ use lib.ListN.{length}
 use lib.Seq.{sets}
 use Rattle.refusal.specs.declared.Refusal.the-variants.{WorkTooShort}
 use Rattle.item.specs.Encode.{head}
-use Rattle.item.specs.Size.{item-length}
-use Rattle.item.specs.Runs.{sets-item}
+use Rattle.item.proofs.Size.{item-length}
+use Rattle.item.proofs.Runs.{sets-item}
 use Rattle.scalar.specs.declared.Parsed.the-variants.{Done, Refused}
 use Rattle.scalar.specs.Read.{string}
 use Rattle.scalar.specs.Code.{quotedOf, Spans}
-use Rattle.scalar.specs.QuoteLaws.{string-refused, quoted-agree}
+use Rattle.scalar.proofs.QuoteLaws.{string-refused, quoted-agree}
 use borrow.Author.Needs.{needs}
 use Rattle.scalar.proofs.quoted_text.quoted.Statement.{statement}
 use Rattle.scalar.proofs.quoted_text.quoted.Tie as tie

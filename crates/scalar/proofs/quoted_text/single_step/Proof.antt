@@ -1,6 +1,6 @@
 -- By what stands there. Assumes nothing.
 use native.Mathlib.Omega.{arith}
-use Rattle.scalar.specs.QuoteLaws.{single-open, single-byte, single-last, single-shut, single-two}
+use Rattle.scalar.proofs.QuoteLaws.{single-open, single-byte, single-last, single-shut, single-two}
 use borrow.Author.Needs.{needs}
 use Rattle.scalar.proofs.quoted_text.single_step.Statement.{statement}
 use Rattle.scalar.proofs.quoted_text.single_step.Tie as tie

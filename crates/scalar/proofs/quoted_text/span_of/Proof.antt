@@ -5,7 +5,7 @@ use mathlib.Core.Path.{subst}
 use Prim.Native.Nat.{ℕ, _+_, _≤_, _-_}
 use lib.ListN.{length}
 use Rattle.scalar.specs.Code.{quotedOf, Steps}
-use Rattle.scalar.specs.QuoteLaws.{Passed, passed-none, passed-byte, passed-shut, passed-refused}
+use Rattle.scalar.proofs.QuoteLaws.{Passed, passed-none, passed-byte, passed-shut, passed-refused}
 use Rattle.scalar.proofs.quoted_text.span_of.Statement.{statement}
 use Rattle.scalar.proofs.quoted_text.span_of.Tie as tie
 

@@ -1,7 +1,7 @@
 -- By the byte. Assumes nothing.
 use Rattle.refusal.specs.Base.{if_then_else_}
 use Rattle.scalar.specs.Read.{escape}
-use Rattle.scalar.specs.QuoteLaws.{escape-self, escape-none}
+use Rattle.scalar.proofs.QuoteLaws.{escape-self, escape-none}
 use Rattle.scalar.proofs.quoted_text.unescaped.Statement.{statement}
 use Rattle.scalar.proofs.quoted_text.unescaped.Tie as tie
 

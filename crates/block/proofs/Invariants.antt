@@ -1,0 +1,341 @@
+-- Where the loops over lines stand, what each of their turns comes to, and what closes a collection. Assumes nothing.
+use mathlib.Core.Path.{_≡_, refl, sym, ap, _∙_}
+use Prim.Native.Nat.{ℕ, zero, suc, _+_, _-_, _≤_, _<_}
+use native.Mathlib.Omega.{arith}
+use mathlib.Core.List.{List, [], _∷_, _++_, append-assoc}
+use mathlib.Core.Bool.{Bool, true, false}
+use mathlib.Core.Option.{none, some}
+use lib.ListN.{length, take, drop, length-append, length-drop}
+use lib.Seq.{sets, length-sets, drop-drop, drop-at, take-at}
+use Rattle.refusal.specs.Base.{good, refused, _>>=_, _>>_, ensure, maybe, if_then_else_}
+use Rattle.refusal.specs.Told.{refusal}
+use Rattle.refusal.specs.declared.Refusal.{Refusal}
+use Rattle.utf8.specs.White.{trimStart}
+use Rattle.item.specs.Tree.{Yaml, seq, dict, Items, end, _◂_, Entries, done, pair, add, hasKey}
+use Rattle.item.specs.Encode.{head, item, encode}
+use Rattle.item.proofs.Size.{head-length, item-length}
+use Rattle.item.proofs.Runs.{sets-append}
+use Rattle.lines.specs.Lines.{Line}
+use Rattle.flow.specs.Flow.{fresh}
+use Rattle.flow.proofs.Invariants.{headed, stored-front, snoc-bytes, add-bytes}
+use Rattle.literal.specs.Literal.{Read}
+use Rattle.literal.specs.Contract.{WroteBlock}
+use Rattle.block.specs.Block.{Inside, keyAt, entryAt, mapTurn, mapLines, entriesOf, blockMap, inlineMap, itemBehind, seqTurn, seqLines, itemsOf, blockSeq, within}
+use Rattle.block.specs.Contract.{keyHere, dashHere, WroteEntry}
+use Rattle.block.proofs.Cases.{charged, uncharged}
+
+-- ---- an entry behind others, as the search for its key finds them
+
+-- `front` and the entry of `key` and `tree` behind it, written from `from` on; the entry begins at `p`
+module _ (old new front key tree : List ℕ) (from p e q : ℕ) (b : new ≡ sets old from (front ++ (item 3 key ++ tree)))
+    (u : p ≡ from + length front) (k : e ≡ p + 6 + length key) (g : q ≡ e + length tree) (f : q ≤ length old) where
+  all-long : length (front ++ (item 3 key ++ tree)) ≡ q - from
+  all-long = rw (length-append, length-append, item-length 3 key) (omega arith)
+
+  stored : drop from new ≡ (front ++ (item 3 key ++ tree)) ++ drop (from + length (front ++ (item 3 key ++ tree))) old
+  stored = ap (drop from) b ∙ stored-front old (front ++ (item 3 key ++ tree)) from (omega (arith, all-long))
+
+  pub before-is : take (p - from) (drop from new) ≡ front
+  before-is = rw (stored, append-assoc) (take-at front _ (p - from) (omega arith))
+
+  pub key-is : take (e - (p + 6)) (drop (p + 6) new) ≡ key
+  unfolding item
+  key-is =
+      let hd : List ℕ = head 3 (length key) in
+      let t : List ℕ = drop (from + length (front ++ (item 3 key ++ tree))) old in
+      let n : length (front ++ hd) ≡ length front + 6 = rw (length-append, head-length 3 (length key)) in
+      let r : (front ++ (hd ++ key ++ tree)) ++ t ≡ (front ++ hd) ++ (key ++ (tree ++ t)) = simp append-assoc in
+      ap (λ (m : ℕ). take (e - (p + 6)) (drop m new)) (let m : p + 6 ≡ from + (length front + 6) = omega arith in m)
+      ∙ ap (take (e - (p + 6))) (sym (drop-drop (length front + 6) from new) ∙ ap (drop (length front + 6)) (stored ∙ r) ∙ drop-at (front ++ hd) (key ++ (tree ++ t)) (length front + 6) n)
+      ∙ take-at key (tree ++ t) (e - (p + 6)) (omega arith)
+
+-- ---- the entries of a mapping
+
+-- the entries so far, from whose end the definition goes on as from the start; `turns` are left
+pub record Mapped (ls : List Line) (first indent levels : ℕ) (old : List ℕ) (at : ℕ) (out : List ℕ) (i p : ℕ) : Type 0 where
+  pub got : Entries
+  pub turns : ℕ
+  pub enough : length (drop i ls) ≤ turns
+  pub same : entriesOf (length old) (within (length old) levels) indent at (drop first ls) ≡ mapLines (length old) (within (length old) levels) indent turns got p (drop i ls)
+  pub bytes : out ≡ sets old at (encode got)
+  pub used : p ≡ at + length (encode got)
+  pub kept : length out ≡ length old
+  pub room : p ≤ length old
+  pub on : first ≤ i
+  pub within′ : i ≤ length ls
+
+pub mapped-start : (ls : List Line) (first indent levels : ℕ) (old : List ℕ) (at : ℕ) → at ≤ length old → first ≤ length ls → Mapped ls first indent levels old at old first at
+unfolding entriesOf encode
+mapped-start ls first indent levels old at r h =
+    record { got = done; turns = length (drop first ls); enough = omega arith; same = refl; bytes = refl; used = omega arith; kept = refl; room = r; on = omega arith; within′ = h }
+
+module _ (ls : List Line) (first indent levels : ℕ) (old : List ℕ) (at : ℕ) (out : List ℕ) (i p : ℕ) (v : Mapped ls first indent levels old at out i p) where
+  abbrev cap : ℕ
+  cap = length old
+
+  abbrev inside : Inside
+  inside = within cap levels
+
+  abbrev answer : Read Entries
+  answer = entriesOf cap inside indent at (drop first ls)
+
+  closes : (turns : ℕ) (rest : List Line) → keyHere indent rest ≡ none → mapLines cap inside indent turns (v .got) p rest ≡ good (v .got, p, rest)
+  unfolding mapLines mapTurn keyHere maybe
+  closes zero rest k = refl
+  closes (suc t) [] k = refl
+  closes (suc t) (l ∷ rest) k = rw k
+
+  pub mapped-end : keyHere indent (drop i ls) ≡ none → WroteBlock answer ls first old out at i p
+  mapped-end k =
+      record { tree = v .got; is = v .same ∙ closes (v .turns) (drop i ls) k; bytes = v .bytes; grows = v .used; fits = v .room; on = v .on; within = v .within′ }
+
+  module _ (l : Line) (rest : List Line) (e : drop i ls ≡ l ∷ rest) (split : ℕ) (k : keyHere indent (drop i ls) ≡ some split) where
+    abbrev entry : Read (List ℕ × Yaml)
+    entry = entryAt cap inside (l .number) indent (l .text) split p rest
+
+    turn : (turns : ℕ) → length (drop i ls) ≤ turns → mapLines cap inside indent turns (v .got) p (drop i ls)
+        ≡ (entry >>= λ x. fresh cap (l .number) (x .0 .0) (v .got) >> mapLines cap inside indent (turns - 1) (add (v .got) (x .0 .0) (x .0 .1)) (x .1) (x .2))
+    unfolding mapLines mapTurn keyHere maybe
+    turn zero h = absurd (omega (arith, ap length e))
+    turn (suc t) h =
+        let n : suc t - 1 ≡ t = omega arith in
+        let m : keyAt indent l ≡ some split = ap (keyHere indent) (sym e) ∙ k in
+        rw (e, m, n)
+
+    on-turn : answer ≡ (entry >>= λ x. fresh cap (l .number) (x .0 .0) (v .got) >> mapLines cap inside indent (v .turns - 1) (add (v .got) (x .0 .0) (x .0 .1)) (x .1) (x .2))
+    on-turn = v .same ∙ turn (v .turns) (v .enough)
+
+    pub map-stops : (z : Refusal) → entry ≡ refusal z → answer ≡ refusal z
+    unfolding _>>=_
+    map-stops z r = on-turn ∙ rw r
+
+    module _ (new : List ℕ) (j c q : ℕ) (w : WroteEntry entry ls (i + 1) out new p j c q) where
+      new-is : new ≡ sets old at (encode (v .got) ++ (item 3 (w .key) ++ encode (w .tree)))
+      new-is =
+          w .bytes′ ∙ ap (λ (b : List ℕ). sets b p (item 3 (w .key) ++ encode (w .tree))) (v .bytes)
+          ∙ ap (λ (m : ℕ). sets (sets old at (encode (v .got))) m (item 3 (w .key) ++ encode (w .tree))) (v .used)
+          ∙ sets-append (encode (v .got)) (item 3 (w .key) ++ encode (w .tree)) old at
+
+      -- what the search for the key among the entries before tells
+      module _ (found : Bool) (s : (es : Entries) → take (p - at) (drop at new) ≡ encode es → found ≡ hasKey (take (c - (p + 6)) (drop (p + 6) new)) es) where
+        fits : q ≤ length old
+        fits = omega (arith, w .fits, v .kept)
+
+        found-is : found ≡ hasKey (w .key) (v .got)
+        found-is =
+            s (v .got) (before-is old new (encode (v .got)) (w .key) (encode (w .tree)) at p c q new-is (v .used) (w .ends) (w .grows) fits)
+            ∙ ap (λ (b : List ℕ). hasKey b (v .got)) (key-is old new (encode (v .got)) (w .key) (encode (w .tree)) at p c q new-is (v .used) (w .ends) (w .grows) fits)
+
+        pub map-twice : found ≡ true → answer ≡ refused 18 (l .number) 0
+        unfolding _>>=_ _>>_ fresh ensure
+        map-twice t = on-turn ∙ rw (w .is, sym found-is ∙ t)
+
+        pub map-on : found ≡ false → Mapped ls first indent levels old at new j q
+        unfolding _>>=_ _>>_ fresh ensure
+        map-on t =
+            record {
+              got = add (v .got) (w .key) (w .tree);
+              turns = v .turns - 1;
+              enough = omega (arith, v .enough, length-drop i ls, length-drop j ls, w .on, ap length e);
+              same = on-turn ∙ rw (w .is, sym found-is ∙ t);
+              bytes = new-is ∙ ap (sets old at) (sym (add-bytes (v .got) (w .key) (w .tree)));
+              used = rw (add-bytes (v .got) (w .key) (w .tree), length-append, length-append, item-length 3 (w .key)) (omega (arith, v .used, w .ends, w .grows));
+              kept = ap length new-is ∙ length-sets old at (encode (v .got) ++ (item 3 (w .key) ++ encode (w .tree)));
+              room = fits;
+              on = omega (arith, v .on, w .on);
+              within′ = w .within;
+            }
+
+-- ---- the items of a sequence
+
+pub record Listed (ls : List Line) (first indent levels : ℕ) (old : List ℕ) (at : ℕ) (out : List ℕ) (i p : ℕ) : Type 0 where
+  pub got : Items
+  pub turns : ℕ
+  pub enough : length (drop i ls) ≤ turns
+  pub same : itemsOf (length old) (within (length old) levels) indent (at + 6) (drop first ls) ≡ seqLines (length old) (within (length old) levels) indent turns got p (drop i ls)
+  pub bytes : out ≡ sets old (at + 6) (encode got)
+  pub used : p ≡ at + 6 + length (encode got)
+  pub kept : length out ≡ length old
+  pub room : p ≤ length old
+  pub on : first ≤ i
+  pub within′ : i ≤ length ls
+
+pub listed-start : (ls : List Line) (first indent levels : ℕ) (old : List ℕ) (at : ℕ) → at + 6 ≤ length old → first ≤ length ls → Listed ls first indent levels old at old first (at + 6)
+unfolding itemsOf encode
+listed-start ls first indent levels old at r h =
+    record { got = end; turns = length (drop first ls); enough = omega arith; same = refl; bytes = refl; used = omega arith; kept = refl; room = r; on = omega arith; within′ = h }
+
+pub list-full : (cap : ℕ) (inside : Inside) (indent at : ℕ) (rest : List Line) → cap < at + 6 → blockSeq cap inside indent at rest ≡ refused 50 0 0
+unfolding blockSeq _>>=_
+list-full cap inside indent at rest h = rw (uncharged cap at h)
+
+module _ (ls : List Line) (first indent levels : ℕ) (old : List ℕ) (at : ℕ) (out : List ℕ) (i p : ℕ) (v : Listed ls first indent levels old at out i p) (room : at + 6 ≤ length old) where
+  abbrev scap : ℕ
+  scap = length old
+
+  abbrev sinside : Inside
+  sinside = within scap levels
+
+  abbrev listed : Read Yaml
+  listed = blockSeq scap sinside indent at (drop first ls)
+
+  listed-is : listed ≡ (seqLines scap sinside indent (v .turns) (v .got) p (drop i ls) >>= λ x. good (seq (x .0), x .1, x .2))
+  unfolding blockSeq _>>=_
+  listed-is = rw (charged scap at room, v .same)
+
+  ends : (turns : ℕ) (rest : List Line) → dashHere indent rest ≡ false → seqLines scap sinside indent turns (v .got) p rest ≡ good (v .got, p, rest)
+  unfolding seqLines seqTurn dashHere if_then_else_
+  ends zero rest k = refl
+  ends (suc t) [] k = refl
+  ends (suc t) (l ∷ rest) k = rw k
+
+  pub list-close : dashHere indent (drop i ls) ≡ false → (new : List ℕ) → new ≡ sets out at (head 4 (p - at - 6)) → WroteBlock listed ls first old new at i p
+  unfolding _>>=_ encode
+  list-close k new w =
+      record {
+        tree = seq (v .got);
+        is = listed-is ∙ rw (ends (v .turns) (drop i ls) k);
+        bytes = headed 4 old out new (encode (v .got)) at p (v .bytes) (v .used) w;
+        grows = omega (arith, v .used, item-length 4 (encode (v .got)));
+        fits = v .room;
+        on = v .on;
+        within = v .within′;
+      }
+
+  module _ (l : Line) (rest : List Line) (e : drop i ls ≡ l ∷ rest) (k : dashHere indent (drop i ls) ≡ true) where
+    abbrev one : Read Yaml
+    one = itemBehind scap sinside l p (trimStart (drop 1 (l .text))) rest
+
+    sturn : (turns : ℕ) → length (drop i ls) ≤ turns → seqLines scap sinside indent turns (v .got) p (drop i ls)
+        ≡ (one >>= λ x. seqLines scap sinside indent (turns - 1) (v .got ◂ x .0) (x .1) (x .2))
+    unfolding seqLines seqTurn dashHere if_then_else_
+    sturn zero h = absurd (omega (arith, ap length e))
+    sturn (suc t) h =
+        let n : suc t - 1 ≡ t = omega arith in
+        let m : dashHere indent (l ∷ rest) ≡ true = ap (dashHere indent) (sym e) ∙ k in
+        rw (e, m, n)
+
+    pub list-stops : (z : Refusal) → one ≡ refusal z → listed ≡ refusal z
+    unfolding _>>=_
+    list-stops z r = listed-is ∙ rw (sturn (v .turns) (v .enough), r)
+
+    pub list-on : (new : List ℕ) (j q : ℕ) → WroteBlock one ls (i + 1) out new p j q → Listed ls first indent levels old at new j q
+    unfolding _>>=_
+    list-on new j q w =
+        record {
+          got = v .got ◂ w .tree;
+          turns = v .turns - 1;
+          enough = omega (arith, v .enough, length-drop i ls, length-drop j ls, w .on, ap length e);
+          same = v .same ∙ sturn (v .turns) (v .enough) ∙ rw (w .is);
+          bytes = w .bytes ∙ ap (λ (b : List ℕ). sets b p (encode (w .tree))) (v .bytes)
+              ∙ ap (λ (m : ℕ). sets (sets old (at + 6) (encode (v .got))) m (encode (w .tree))) (v .used)
+              ∙ sets-append (encode (v .got)) (encode (w .tree)) old (at + 6) ∙ ap (sets old (at + 6)) (sym (snoc-bytes (v .got) (w .tree)));
+          used = rw (snoc-bytes (v .got) (w .tree), length-append) (omega (arith, v .used, w .grows));
+          kept = ap length (w .bytes) ∙ length-sets out p (encode (w .tree)) ∙ v .kept;
+          room = omega (arith, w .fits, v .kept);
+          on = omega (arith, v .on, w .on);
+          within′ = w .within;
+        }
+
+-- ---- mappings
+
+pub map-full : (cap : ℕ) (inside : Inside) (indent at : ℕ) (rest : List Line) → cap < at + 6 → blockMap cap inside indent at rest ≡ refused 50 0 0
+unfolding blockMap _>>=_
+map-full cap inside indent at rest h = rw (uncharged cap at h)
+
+module _ (cap : ℕ) (inside : Inside) (indent at : ℕ) (rest : List Line) (room : at + 6 ≤ cap) where
+  pub map-refused : (z : Refusal) → entriesOf cap inside indent (at + 6) rest ≡ refusal z → blockMap cap inside indent at rest ≡ refusal z
+  unfolding blockMap _>>=_
+  map-refused z e = rw (charged cap at room, e)
+
+  pub map-close : (ls : List Line) (i : ℕ) (old out new : List ℕ) (j q : ℕ) → WroteBlock (entriesOf cap inside indent (at + 6) rest) ls i old out (at + 6) j q
+      → new ≡ sets out at (head 5 (q - at - 6)) → WroteBlock (blockMap cap inside indent at rest) ls i old new at j q
+  unfolding blockMap _>>=_ encode
+  map-close ls i old out new j q w n =
+      record {
+        tree = dict (w .tree);
+        is = rw (charged cap at room, w .is);
+        bytes = headed 5 old out new (encode (w .tree)) at q (w .bytes) (w .grows) n;
+        grows = omega (arith, w .grows, item-length 5 (encode (w .tree)));
+        fits = w .fits;
+        on = w .on;
+        within = w .within;
+      }
+
+-- ---- a mapping behind a dash
+
+pub inline-full : (cap : ℕ) (inside : Inside) (n indent : ℕ) (t : List ℕ) (split at : ℕ) (rest : List Line) → cap < at + 6 → inlineMap cap inside n indent t split at rest ≡ refused 50 0 0
+unfolding inlineMap _>>=_
+inline-full cap inside n indent t split at rest h = rw (uncharged cap at h)
+
+module _ (inside : Inside) (n indent : ℕ) (t : List ℕ) (split at : ℕ) (rest : List Line) (old : List ℕ) (room : at + 6 ≤ length old) where
+  abbrev icap : ℕ
+  icap = length old
+
+  abbrev inlined : Read Yaml
+  inlined = inlineMap icap inside n indent t split at rest
+
+  pub inline-stops : (z : Refusal) → entryAt icap inside n indent t split (at + 6) rest ≡ refusal z → inlined ≡ refusal z
+  unfolding inlineMap _>>=_
+  inline-stops z e = rw (charged icap at room, e)
+
+  module _ (ls : List Line) (i : ℕ) (mid : List ℕ) (j c q : ℕ) (w : WroteEntry (entryAt icap inside n indent t split (at + 6) rest) ls i old mid (at + 6) j c q) where
+    pub inline-later : (z : Refusal) → entriesOf icap inside indent q (drop j ls) ≡ refusal z → inlined ≡ refusal z
+    unfolding inlineMap _>>=_
+    inline-later z e = rw (charged icap at room, w .is, e)
+
+    module _ (out : List ℕ) (m u : ℕ) (d : WroteBlock (entriesOf icap inside indent q (drop j ls)) ls j mid out q m u) where
+      behind-is : out ≡ sets old (at + 6) (item 3 (w .key) ++ (encode (w .tree) ++ encode (d .tree)))
+      behind-is =
+          d .bytes ∙ ap (λ (b : List ℕ). sets b q (encode (d .tree))) (w .bytes′)
+          ∙ ap (λ (x : ℕ). sets (sets old (at + 6) (item 3 (w .key) ++ encode (w .tree))) x (encode (d .tree))) q-is
+          ∙ sets-append (item 3 (w .key) ++ encode (w .tree)) (encode (d .tree)) old (at + 6)
+          ∙ ap (sets old (at + 6)) (append-assoc (item 3 (w .key)) (encode (w .tree)) (encode (d .tree)))
+        where
+          q-is : q ≡ at + 6 + length (item 3 (w .key) ++ encode (w .tree))
+          q-is = rw (length-append, item-length 3 (w .key)) (omega (arith, w .ends, w .grows))
+
+      u-is : u ≡ c + length (encode (w .tree) ++ encode (d .tree))
+      u-is = rw length-append (omega (arith, w .grows, d .grows))
+
+      mid-long : length mid ≡ length old
+      mid-long = ap length (w .bytes′) ∙ length-sets old (at + 6) (item 3 (w .key) ++ encode (w .tree))
+
+      whole : u ≤ length old
+      whole = omega (arith, d .fits, mid-long)
+
+      -- the later entries, and the first key, as the search for it finds them
+      module _ (found : Bool) (s : (es : Entries) → take (u - q) (drop q out) ≡ encode es → found ≡ hasKey (take (c - (at + 12)) (drop (at + 12) out)) es) where
+        later-is : take (u - q) (drop q out) ≡ encode (d .tree)
+        later-is =
+            ap (λ (b : List ℕ). take (u - q) (drop q b)) (d .bytes)
+            ∙ ap (take (u - q)) (stored-front mid (encode (d .tree)) q (omega (arith, d .grows, d .fits)))
+            ∙ take-at (encode (d .tree)) _ (u - q) (omega (arith, d .grows))
+
+        first-is : take (c - (at + 12)) (drop (at + 12) out) ≡ w .key
+        first-is =
+            let z : at + 12 ≡ at + 6 + 6 = omega arith in
+            rw z (key-is old out [] (w .key) (encode (w .tree) ++ encode (d .tree)) (at + 6) (at + 6) c u behind-is (omega arith) (w .ends) u-is whole)
+
+        found-first : found ≡ hasKey (w .key) (d .tree)
+        found-first = s (d .tree) later-is ∙ ap (λ (b : List ℕ). hasKey b (d .tree)) first-is
+
+        pub inline-twice : found ≡ true → inlined ≡ refused 18 n 0
+        unfolding inlineMap _>>=_ _>>_ fresh ensure
+        inline-twice f = rw (charged icap at room, w .is, d .is, sym found-first ∙ f)
+
+        pub inline-close : found ≡ false → i ≤ j → (new : List ℕ) → new ≡ sets out at (head 5 (u - at - 6)) → WroteBlock inlined ls i old new at m u
+        unfolding inlineMap _>>=_ _>>_ fresh ensure encode
+        inline-close f o new h =
+            record {
+              tree = dict (pair (w .key) (w .tree) (d .tree));
+              is = rw (charged icap at room, w .is, d .is, sym found-first ∙ f);
+              bytes = headed 5 old out new (encode (pair (w .key) (w .tree) (d .tree))) at u behind-is (omega (arith, all)) h;
+              grows = omega (arith, all, item-length 5 (encode (pair (w .key) (w .tree) (d .tree))));
+              fits = whole;
+              on = omega (arith, o, d .on);
+              within = d .within;
+            }
+          where
+            all : u ≡ at + 6 + length (encode (pair (w .key) (w .tree) (d .tree)))
+            all = rw (length-append, item-length 3 (w .key)) (omega (arith, u-is, w .ends))

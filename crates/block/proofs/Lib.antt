@@ -1,0 +1,5 @@
+pub mod Parts
+pub mod Places
+pub mod Progress
+pub mod Cases
+pub mod Invariants

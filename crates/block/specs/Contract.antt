@@ -1,0 +1,93 @@
+-- What the readers of blocks promise, and the words that their contracts need. Assumes nothing.
+use mathlib.Core.Path.{_≡_}
+use Prim.Native.Nat.{ℕ, _+_, _-_, _≤_, _<_}
+use mathlib.Core.List.{List, [], _∷_, _++_}
+use mathlib.Core.Bool.{Bool, false}
+use mathlib.Core.Option.{Option, none}
+use lib.ListN.{length, drop}
+use lib.Seq.{sets}
+use Rattle.refusal.specs.Base.{Answer, good, maybe, if_then_else_, bytes, same, empty}
+use Rattle.refusal.specs.Told.{refusal}
+use Rattle.utf8.specs.Part.{part}
+use Rattle.item.specs.Tree.{Yaml}
+use Rattle.item.specs.Encode.{item, encode}
+use Rattle.lines.specs.Lines.{Line}
+use Rattle.lines.specs.Table.{indentAt, startAt, endAt, tableLines}
+use Rattle.lines.specs.Dash.{dashed, isDash}
+use Rattle.scalar.specs.Key.{keyEnd}
+use Rattle.literal.specs.Literal.{Read}
+use Rattle.block.specs.declared.Opening.{Opening}
+use Rattle.block.specs.declared.Opening.the-variants.{Dash, Key, Flow}
+use Rattle.block.specs.declared.Behind.{Behind}
+use Rattle.block.specs.declared.Behind.the-variants.{Nothing, Literal, Stripped, Value}
+use Rattle.block.specs.declared.KeyRead.{KeyRead}
+use Rattle.block.specs.declared.KeyRead.the-variants.{Done, Refused}
+use Rattle.block.specs.declared.EntryRead.{EntryRead}
+use Rattle.block.specs.declared.EntryRead.the-variants.{Done as Took, Refused as Stopped}
+use Rattle.block.specs.Block.{keyAt}
+
+-- what a line with this text begins with
+unfoldable pub openingOf : List ℕ → Opening
+openingOf t = if dashed t then Dash else maybe (keyEnd t) Flow Key
+
+-- what the text behind a colon is
+unfoldable pub behindOf : List ℕ → Behind
+behindOf t =
+    if empty t then Nothing
+    else if same t (bytes "|") then Literal
+    else if same t (bytes "|-") then Stripped
+    else Value
+
+-- whether the first of the lines goes on a mapping at this indentation, and where its key ends
+unfoldable pub keyHere : ℕ → List Line → Option ℕ
+keyHere indent [] = none
+keyHere indent (l ∷ ls) = keyAt indent l
+
+-- whether it goes on a sequence
+unfoldable pub dashHere : ℕ → List Line → Bool
+dashHere indent [] = false
+dashHere indent (l ∷ ls) = isDash indent l
+
+-- the column of the place `from` of entry `i`, and the line's text from there on
+abbrev pub columnAt : List ℕ → ℕ → ℕ → ℕ
+columnAt table i from = indentAt table i + (from - startAt table i)
+
+abbrev pub textAt : List ℕ → List ℕ → ℕ → ℕ → List ℕ
+textAt text table i from = part text from (endAt table i)
+
+-- a place of that line, with a colon `split` bytes behind it
+pub record Splits (table : List ℕ) (i from split : ℕ) : Type 0 where
+  pub low : startAt table i ≤ from
+  pub high : from + split < endAt table i
+
+-- a key, written from `at` up to `used`
+pub record WroteKey (answer : Answer (List ℕ × ℕ)) (old new : List ℕ) (at used : ℕ) : Type 0 where
+  pub key : List ℕ
+  pub is : answer ≡ good (key, used)
+  pub bytes′ : new ≡ sets old at (item 3 key)
+  pub grows : used ≡ at + 6 + length key
+  pub fits : used ≤ length old
+
+abbrev pub AgreesKey : Answer (List ℕ × ℕ) → List ℕ → List ℕ → ℕ → KeyRead → Type 0
+AgreesKey answer old new at (Done used) = WroteKey answer old new at used
+AgreesKey answer old new at (Refused e) = answer ≡ refusal e
+
+-- an entry read up to the line `next` of `ls`, its key written from `at` up to `keyEnd`, and its value behind it
+pub record WroteEntry (answer : Read (List ℕ × Yaml)) (ls : List Line) (i : ℕ) (old new : List ℕ) (at next keyEnd used : ℕ) : Type 0 where
+  pub key : List ℕ
+  pub tree : Yaml
+  pub is : answer ≡ good ((key, tree), used, drop next ls)
+  pub bytes′ : new ≡ sets old at (item 3 key ++ encode tree)
+  pub ends : keyEnd ≡ at + 6 + length key
+  pub grows : used ≡ keyEnd + length (encode tree)
+  pub fits : used ≤ length old
+  pub on : i ≤ next
+  pub within : next ≤ length ls
+
+abbrev pub AgreesEntry : Read (List ℕ × Yaml) → List Line → ℕ → List ℕ → List ℕ → ℕ → EntryRead → Type 0
+AgreesEntry answer ls i old new at (Took next keyEnd used) = WroteEntry answer ls i old new at next keyEnd used
+AgreesEntry answer ls i old new at (Stopped e) = answer ≡ refusal e
+
+-- the same of the lines of a table from `i` on
+abbrev pub ReadsEntry : (ℕ → List Line → Read (List ℕ × Yaml)) → List ℕ → List ℕ → ℕ → ℕ → List ℕ → List ℕ → ℕ → EntryRead → Type 0
+ReadsEntry read text table count i old new at r = AgreesEntry (read (length old) (drop i (tableLines text table count))) (tableLines text table count) i old new at r

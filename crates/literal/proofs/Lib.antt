@@ -1,0 +1,4 @@
+pub mod Ends
+pub mod Laws
+pub mod Whole
+pub mod Walk

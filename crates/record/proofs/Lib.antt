@@ -1,0 +1,10 @@
+pub mod Answers
+pub mod RoundTrip
+pub mod Chains
+pub mod Exact
+pub mod Examples
+pub mod Headers
+pub mod Lookups
+pub mod Invariants
+pub mod Views
+pub mod Theorems

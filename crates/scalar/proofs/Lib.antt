@@ -1,0 +1,4 @@
+pub mod KeyLaws
+pub mod Laws
+pub mod NumberLaws
+pub mod QuoteLaws

@@ -1,0 +1,119 @@
+-- What the readers and the writers of a step promise. Assumes nothing.
+use mathlib.Core.Path.{_≡_}
+use Prim.Native.Nat.{ℕ, _-_, _≤_}
+use mathlib.Core.List.{List}
+use mathlib.Core.Bool.{Bool, true, false}
+use mathlib.Core.Option.{Option, none, some}
+use lib.ListN.{length, take, drop}
+use Rattle.refusal.specs.Base.{Answer, good, refused, ensure, maybe}
+use Rattle.refusal.specs.Told.{refusal}
+use Rattle.item.specs.Tree.{Yaml, dict, Entries, done, pair, Ranged}
+use Rattle.item.specs.Encode.{encode}
+use Rattle.item.specs.declared.Found.{Found}
+use Rattle.scalar.specs.Scalars.{keyText}
+use Rattle.entries.specs.declared.Pair.{Pair}
+use Rattle.entries.specs.declared.Pair.the-variants as pairs
+use Rattle.entries.specs.Entries.{Stands, Holds, Finds, FoundInside}
+use Rattle.nodes.specs.Contract.{Reads}
+use Rattle.meaning.specs.Meaning.{Step}
+use Rattle.meaning.specs.Meanings.{orEmpty, expectOf, commands, commandOf, expectAllowed, isTrue}
+use Rattle.step.specs.declared.Command.{Command}
+use Rattle.step.specs.declared.Command.the-variants.{One, Other}
+use Rattle.step.specs.declared.StepPlaces.{StepPlaces}
+use Rattle.step.specs.declared.StepRead.{StepRead}
+use Rattle.step.specs.declared.StepRead.the-variants as read
+
+-- ---- a step by its places
+
+-- an entry: the text of its key, and behind it its value
+pub record EntryAt (s : List ℕ) (start end : ℕ) (k : List ℕ) (v : Yaml) : Type 0 where
+  pub key : take (end - start) (drop start s) ≡ k
+  pub ranged : Ranged v
+  pub value : Stands s end (encode v)
+
+-- a key's value that is absent or a mapping
+unfoldable pub mapping : Option Entries → Option Yaml
+mapping none = none
+mapping (some es) = some (dict es)
+
+pub record StepStands (s : List ℕ) (step : Step) (p : StepPlaces) : Type 0 where
+  pub name : Reads s (λ o. orEmpty (maybe o none keyText)) (p .name) (step .name)
+  pub id : Reads s (λ o. orEmpty (maybe o none keyText)) (p .id) (step .id)
+  pub command : EntryAt s (p .key) (p .value) (step .key) (step .value)
+  pub timeout : Reads s (λ o. maybe o none keyText) (p .timeout) (step .timeout)
+  pub continue : Reads s isTrue (p .continues) (step .continue)
+  pub expect : Finds s (mapping (step .expect)) (p .expect)
+
+-- a reading, and where the parts of the step stand that it gives
+pub record ReadsStep (s : List ℕ) (answer : Answer Step) (p : StepPlaces) : Type 0 where
+  pub step : Step
+  pub is : answer ≡ good step
+  pub stands : StepStands s step p
+
+abbrev pub AgreesRead : List ℕ → Answer Step → StepRead → Type 0
+AgreesRead s answer (read.Step p) = ReadsStep s answer p
+AgreesRead s answer (read.Refused e) = answer ≡ refusal e
+
+-- places in the bytes, whatever they are
+pub record PlacesInside (s : List ℕ) (p : StepPlaces) : Type 0 where
+  pub name : FoundInside s (p .name)
+  pub id : FoundInside s (p .id)
+  pub key : p .key ≤ p .value
+  pub value : p .value ≤ length s
+  pub timeout : FoundInside s (p .timeout)
+  pub continue : FoundInside s (p .continues)
+  pub expect : FoundInside s (p .expect)
+
+abbrev pub ReadInside : List ℕ → StepRead → Type 0
+ReadInside s (read.Step p) = PlacesInside s p
+ReadInside s (read.Refused e) = Unit {0}
+
+-- ---- 33
+
+abbrev pub AgreesExpect : Option Yaml → Bool → Type 0
+AgreesExpect o true = (m : Option Entries) × (o ≡ mapping m)
+AgreesExpect o false = (line n : ℕ) → expectOf line n o ≡ refused 33 line n
+
+-- ---- 34
+
+-- the first of some commands, and the entries that the others are of
+pub record FirstCommand (s : List ℕ) (to : ℕ) (cs : Entries) (start end next : ℕ) : Type 0 where
+  pub k : List ℕ
+  pub v : Yaml
+  pub others : Entries
+  pub is : cs ≡ pair k v (commands others)
+  pub entry : EntryAt s start end k v
+  pub behind : Holds s next to others
+
+abbrev pub AgreesFirst : List ℕ → ℕ → Entries → Pair → Type 0
+AgreesFirst s to cs (pairs.At start end kind next) = FirstCommand s to cs start end next
+AgreesFirst s to cs pairs.Nowhere = cs ≡ done
+
+abbrev pub FirstInside : List ℕ → Pair → Type 0
+FirstInside s (pairs.At start end kind next) = (start ≤ end) × (end ≤ length s)
+FirstInside s pairs.Nowhere = Unit {0}
+
+-- the one command
+pub record OneCommand (s : List ℕ) (cs : Entries) (key value : ℕ) : Type 0 where
+  pub k : List ℕ
+  pub v : Yaml
+  pub is : (n : ℕ) → commandOf n cs ≡ good (k, v)
+  pub entry : EntryAt s key value k v
+
+abbrev pub AgreesCommand : List ℕ → Entries → Command → Type 0
+AgreesCommand s cs (One key value) = OneCommand s cs key value
+AgreesCommand s cs Other = (n : ℕ) → commandOf n cs ≡ refused 34 0 n
+
+abbrev pub CommandInside : List ℕ → Command → Type 0
+CommandInside s (One key value) = (key ≤ value) × (value ≤ length s)
+CommandInside s Other = Unit {0}
+
+-- ---- 35
+
+abbrev pub AgreesAllowed : List ℕ → Found → ℕ → ℕ → Bool → Type 0
+AgreesAllowed s expect key value r =
+    (line n : ℕ) (m : Option Entries) → Finds s (mapping m) expect → expectAllowed line n (take (value - key) (drop key s)) m ≡ ensure r 35 line n
+
+unfoldable pub Agree-open : Unit {0}
+unfolding mapping
+Agree-open = tt

@@ -1,0 +1,12 @@
+pub mod BlockFit
+pub mod Fit
+pub mod FlowFit
+pub mod Integers
+pub mod ReadTree
+pub mod Keys
+pub mod Levels
+pub mod Parts
+pub mod Reading
+pub mod Sound
+pub mod Strings
+pub mod Sums
