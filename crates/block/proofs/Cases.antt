@@ -7,7 +7,7 @@ use mathlib.Core.Bool.{Bool, true, false}
 use mathlib.Core.Option.{Option, none, some}
 use lib.ListN.{length, take, drop}
 use borrow.Author.Tests.{lt-ltb, le-ltb, le-leb, lt-leb}
-use Rattle.refusal.specs.Base.{Answer, good, refused, _>>=_, _>>_, given, maybe, if_then_else_, bytes, same, empty}
+use Rattle.refusal.specs.Base.{Answer, good, refused, _>>=_, given, maybe, if_then_else_, bytes, same, empty}
 use Rattle.refusal.specs.Told.{refusal}
 use Rattle.refusal.specs.declared.Refusal.{Refusal}
 use Rattle.utf8.specs.White.{trim}

@@ -3,3 +3,4 @@ pub mod Places
 pub mod Progress
 pub mod Cases
 pub mod Invariants
+pub mod Open

@@ -1,4 +1,5 @@
--- Section 3 of document 01: blocks (`parse_block`, `parse_seq`, `parse_map`, `read_entry`). Assumes nothing.
+-- Section 3 of document 01: blocks (`parse_block`, `parse_seq`, `parse_map`, `read_entry`). Uses Base of `refusal`; White of `utf8`; Tree
+-- of `item`; Lines and Dash of `lines`; Scalars, Key and Read of `scalar`; Flow of `flow`; Literal of `literal`. Assumes nothing.
 use Prim.Native.Nat.{ℕ, zero, suc, _+_, _-_}
 use mathlib.Core.List.{List, [], _∷_}
 use mathlib.Core.Bool.{Bool, true, false, _||_, not}
@@ -160,7 +161,3 @@ module _ (cap : ℕ) where
 
   unfoldable pub block : ℕ → ℕ → List Line → Read Yaml
   block levels sum ls = within levels .block sum ls
-
-unfoldable pub Block-open : Unit {0}
-unfolding dashed startsComplex lineValue child blockKey valueBehind entryAt keyAt mapTurn mapLines entriesOf blockMap inlineMap itemBehind seqTurn seqLines itemsOf blockSeq blockOf inlineOf insideOf within block
-Block-open = tt

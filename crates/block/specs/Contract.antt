@@ -1,4 +1,6 @@
--- What the readers of blocks promise, and the words that their contracts need. Assumes nothing.
+-- Section 3 of document 01, for the contracts inside the crate: what the readers of blocks promise. Uses Base and Told of `refusal`; Part
+-- of `utf8`; Tree and Encode of `item`; Lines, Table and Dash of `lines`; Key of `scalar`; Literal of `literal`; Block of this crate.
+-- Assumes nothing.
 use mathlib.Core.Path.{_≡_}
 use Prim.Native.Nat.{ℕ, _+_, _-_, _≤_, _<_}
 use mathlib.Core.List.{List, [], _∷_, _++_}

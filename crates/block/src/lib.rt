@@ -2,7 +2,7 @@
 // of entries, of which the first `count` count; `levels` more collections may be opened; of `out` the first `at` bytes are used.
 ghost use mathlib.Core.Path.{_≡_};
 ghost use mathlib.Core.Option.{some};
-ghost use Prim.Native.Nat.{_+_, _≤_, _<_, suc};
+ghost use Prim.Native.Nat.{_+_, _≤_, _<_, suc, _^_};
 ghost use lib.ListN.{length, drop};
 ghost use Rattle.item.specs.Tree as items;
 ghost use Rattle.utf8.specs.White.{trim, trimStart};
@@ -12,7 +12,8 @@ ghost use Rattle.scalar.specs.Code.{foundOf};
 ghost use Rattle.literal.specs.Literal as literals;
 ghost use Rattle.literal.specs.Contract.{ReadsLines, ReadsPart};
 ghost use Rattle.block.specs.Block as definition;
-ghost use Rattle.block.specs.Block.{startsComplex, lineValue, blockKey, valueBehind, entryAt, entriesOf, blockMap, inlineMap, itemBehind, blockSeq, within};
+ghost use Rattle.block.specs.Block.{startsComplex, lineValue, blockKey, valueBehind, entryAt, entriesOf, blockMap, inlineMap};
+ghost use Rattle.block.specs.Block.{itemBehind, blockSeq, within};
 ghost use Rattle.block.specs.Contract.{openingOf, behindOf, keyHere, dashHere, columnAt, textAt, Splits, AgreesKey, ReadsEntry};
 use entries::has_key;
 use flow::Whole;
@@ -106,7 +107,7 @@ fn behind_colon(t: &[u8]) -> Behind
 }
 
 fn null(i: usize, out: &mut [u8], at: usize) -> BlockRead
-    requires { ⌜ (at ≤ length (now out)) × (length (now out) ≤ 1048576) ⌝ }
+    requires { ⌜ (at ≤ length (now out)) × (length (now out) ≤ 2 ^ 20) ⌝ }
     ensures { λ r. ⌜ ReadsPart (λ work ls. literals.leaf work at items.null ls) i (now (out .entry)) (now (out .exit)) at r ⌝ }
 {
     if out.len() - at < 6 {
@@ -128,7 +129,7 @@ fn line_value(
     out: &mut [u8],
     at: usize,
 ) -> BlockRead
-    requires { ⌜ (length (now s) ≤ 65535) × (at ≤ length (now out)) × (length (now out) ≤ 1048576) ⌝ }
+    requires { ⌜ (length (now s) ≤ 65535) × (at ≤ length (now out)) × (length (now out) ≤ 2 ^ 20) ⌝ }
     ensures { λ r. ⌜ ReadsPart (λ work ls. lineValue work levels number at (now (s .entry)) ls) i (now (out .entry)) (now (out .exit)) at
         r ⌝ }
 {
@@ -140,7 +141,7 @@ fn line_value(
 
 // The key before a colon.
 fn block_key(s: &[u8], levels: usize, number: u32, out: &mut [u8], at: usize) -> KeyRead
-    requires { ⌜ (length (now s) ≤ 65535) × (at ≤ length (now out)) × (length (now out) ≤ 1048576) ⌝ }
+    requires { ⌜ (length (now s) ≤ 65535) × (at ≤ length (now out)) × (length (now out) ≤ 2 ^ 20) ⌝ }
     ensures { λ r. ⌜ AgreesKey (blockKey (length (now (out .entry))) levels number at (trim (now (s .entry)))) (now (out .entry))
         (now (out .exit)) at r ⌝ }
 {
@@ -174,7 +175,7 @@ fn child(
     out: &mut [u8],
     at: usize,
 ) -> BlockRead
-    requires { ⌜ Ready (now text) (now table) count × (i ≤ count) × (at ≤ length (now out)) × (length (now out) ≤ 1048576) ⌝ }
+    requires { ⌜ Ready (now text) (now table) count × (i ≤ count) × (at ≤ length (now out)) × (length (now out) ≤ 2 ^ 20) ⌝ }
     ensures { λ r. ⌜ ReadsLines (λ work ls. definition.child work (within work levels) indent at ls) (now (text .entry))
         (now (table .entry)) count i (now (out .entry)) (now (out .exit)) at r ⌝ }
 {
@@ -201,7 +202,7 @@ fn entry_value(
     at: usize,
 ) -> BlockRead
     requires { ⌜ Ready (now text) (now table) count × (i < count) × Splits (now table) i from split × (at ≤ length (now out))
-        × (length (now out) ≤ 1048576) ⌝ }
+        × (length (now out) ≤ 2 ^ 20) ⌝ }
     ensures { λ r. ⌜ ReadsLines (λ work ls. valueBehind work (within work levels) (numberAt (now (table .entry)) i)
         (columnAt (now (table .entry)) i from) at (trim (drop (suc split) (textAt (now (text .entry)) (now (table .entry)) i from))) ls)
         (now (text .entry)) (now (table .entry)) count (i + 1) (now (out .entry)) (now (out .exit)) at r ⌝ }
@@ -233,7 +234,7 @@ fn entry(
     at: usize,
 ) -> EntryRead
     requires { ⌜ Ready (now text) (now table) count × (i < count) × Splits (now table) i from split × (at ≤ length (now out))
-        × (length (now out) ≤ 1048576) ⌝ }
+        × (length (now out) ≤ 2 ^ 20) ⌝ }
     ensures { λ r. ⌜ ReadsEntry (λ work ls. entryAt work (within work levels) (numberAt (now (table .entry)) i)
         (columnAt (now (table .entry)) i from) (textAt (now (text .entry)) (now (table .entry)) i from) split at ls) (now (text .entry))
         (now (table .entry)) count (i + 1) (now (out .entry)) (now (out .exit)) at r ⌝ }
@@ -285,7 +286,7 @@ fn entries(
 ) -> BlockRead
     requires { ⌜ Ready (now text) (now table) count × (first ≤ count)
         × (found ≡ foundOf (keyHere indent (drop first (tableLines (now text) (now table) count)))) × (at ≤ length (now out))
-        × (length (now out) ≤ 1048576) ⌝ }
+        × (length (now out) ≤ 2 ^ 20) ⌝ }
     ensures { λ r. ⌜ ReadsLines (λ work ls. entriesOf work (within work levels) indent at ls) (now (text .entry)) (now (table .entry))
         count first (now (out .entry)) (now (out .exit)) at r ⌝ }
 {
@@ -330,7 +331,7 @@ fn mapping(
 ) -> BlockRead
     requires { ⌜ Ready (now text) (now table) count × (i < count)
         × (keyHere indent (drop i (tableLines (now text) (now table) count)) ≡ some split) × (at ≤ length (now out))
-        × (length (now out) ≤ 1048576) ⌝ }
+        × (length (now out) ≤ 2 ^ 20) ⌝ }
     ensures { λ r. ⌜ ReadsLines (λ work ls. blockMap work (within work levels) indent at ls) (now (text .entry)) (now (table .entry))
         count i (now (out .entry)) (now (out .exit)) at r ⌝ }
 {
@@ -369,7 +370,7 @@ fn inline_mapping(
     at: usize,
 ) -> BlockRead
     requires { ⌜ Ready (now text) (now table) count × (i < count) × Splits (now table) i from split × (at ≤ length (now out))
-        × (length (now out) ≤ 1048576) ⌝ }
+        × (length (now out) ≤ 2 ^ 20) ⌝ }
     ensures { λ r. ⌜ ReadsLines (λ work ls. inlineMap work (within work levels) (numberAt (now (table .entry)) i)
         (columnAt (now (table .entry)) i from) (textAt (now (text .entry)) (now (table .entry)) i from) split at ls) (now (text .entry))
         (now (table .entry)) count (i + 1) (now (out .entry)) (now (out .exit)) at r ⌝ }
@@ -412,7 +413,7 @@ fn item(
     at: usize,
 ) -> BlockRead
     requires { ⌜ Ready (now text) (now table) count × (i < count) × (startAt (now table) i < endAt (now table) i)
-        × (at ≤ length (now out)) × (length (now out) ≤ 1048576) ⌝ }
+        × (at ≤ length (now out)) × (length (now out) ≤ 2 ^ 20) ⌝ }
     ensures { λ r. ⌜ ReadsLines (λ work ls. itemBehind work (within work levels) (lineAt (now (text .entry)) (now (table .entry)) i) at
         (trimStart (drop 1 (textAt (now (text .entry)) (now (table .entry)) i (startAt (now (table .entry)) i)))) ls) (now (text .entry))
         (now (table .entry)) count (i + 1) (now (out .entry)) (now (out .exit)) at r ⌝ }
@@ -454,7 +455,7 @@ fn sequence(
     out: &mut [u8],
     at: usize,
 ) -> BlockRead
-    requires { ⌜ Ready (now text) (now table) count × (first ≤ count) × (at ≤ length (now out)) × (length (now out) ≤ 1048576) ⌝ }
+    requires { ⌜ Ready (now text) (now table) count × (first ≤ count) × (at ≤ length (now out)) × (length (now out) ≤ 2 ^ 20) ⌝ }
     ensures { λ r. ⌜ ReadsLines (λ work ls. blockSeq work (within work levels) indent at ls) (now (text .entry)) (now (table .entry))
         count first (now (out .entry)) (now (out .exit)) at r ⌝ }
 {
@@ -486,7 +487,7 @@ pub fn block(
     out: &mut [u8],
     at: usize,
 ) -> BlockRead
-    requires { ⌜ Ready (now text) (now table) count × (i ≤ count) × (at ≤ length (now out)) × (length (now out) ≤ 1048576) ⌝ }
+    requires { ⌜ Ready (now text) (now table) count × (i ≤ count) × (at ≤ length (now out)) × (length (now out) ≤ 2 ^ 20) ⌝ }
     ensures { λ r. ⌜ ReadsLines (λ work ls. definition.block work levels at ls) (now (text .entry)) (now (table .entry)) count i
         (now (out .entry)) (now (out .exit)) at r ⌝ }
 {

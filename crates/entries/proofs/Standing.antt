@@ -46,7 +46,7 @@ stands-byte {s} {p} {n} h =
 
 -- ---- items
 
-pub item-head : {s : List ℕ} {p : ℕ} (kind : ℕ) (c : List ℕ) → kind < 256 ^ 2 → length s ≤ 1048576 → Stands s p (item kind c) → headerAt s p ≡ Item kind (p + 6) (p + 6 + length c)
+pub item-head : {s : List ℕ} {p : ℕ} (kind : ℕ) (c : List ℕ) → kind < 256 ^ 2 → length s ≤ 2 ^ 20 → Stands s p (item kind c) → headerAt s p ≡ Item kind (p + 6) (p + 6 + length c)
 item-head {s} {p} kind c small w st = item-at s p kind c (st .rest) small (omega (arith, st .within, item-length kind c)) (omega (arith, st .within)) (st .here)
 
 pub item-content : {s : List ℕ} {p : ℕ} (kind : ℕ) (c : List ℕ) → Stands s p (item kind c) → Stands s (p + 6) c
@@ -76,7 +76,7 @@ kind-small (dict es) = omega arith
 pub value-size : (v : Yaml) → length (encode v) ≡ 6 + length (content v)
 value-size v = ap length (value-item v) ∙ item-length (kindOf v) (content v)
 
-pub value-head : {s : List ℕ} {p : ℕ} (v : Yaml) → length s ≤ 1048576 → Stands s p (encode v) → headerAt s p ≡ Item (kindOf v) (p + 6) (p + length (encode v))
+pub value-head : {s : List ℕ} {p : ℕ} (v : Yaml) → length s ≤ 2 ^ 20 → Stands s p (encode v) → headerAt s p ≡ Item (kindOf v) (p + 6) (p + length (encode v))
 value-head {s} {p} v w st =
     let n : p + 6 + length (content v) ≡ p + length (encode v) = omega (arith, value-size v) in
     item-head (kindOf v) (content v) (kind-small v) w (stands-is (value-item v) st) ∙ ap (Item (kindOf v) (p + 6)) n
@@ -90,7 +90,7 @@ pub record Valued (s : List ℕ) (p : ℕ) (v : Yaml) (kind from to : ℕ) : Typ
   pub ends : to ≡ from + length (content v)
   pub part-is : take (to - from) (drop from s) ≡ content v
 
-pub valued : {s : List ℕ} {p kind from to : ℕ} → Item kind from to ≡ headerAt s p → (v : Yaml) → length s ≤ 1048576 → Stands s p (encode v) → Valued s p v kind from to
+pub valued : {s : List ℕ} {p kind from to : ℕ} → Item kind from to ≡ headerAt s p → (v : Yaml) → length s ≤ 2 ^ 20 → Stands s p (encode v) → Valued s p v kind from to
 valued {s} {p} {kind} {from} {to} h v w st =
     let e : Item kind from to ≡ Item (kindOf v) (p + 6) (p + length (encode v)) = h ∙ value-head v w st in
     let a : from ≡ p + 6 = cc e in

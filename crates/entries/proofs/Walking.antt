@@ -1,6 +1,6 @@
 -- Entries and items from the front, by their places, and the search among them. Assumes nothing.
 use mathlib.Core.Path.{_≡_, refl, sym, ap, _∙_, subst}
-use Prim.Native.Nat.{ℕ, _+_, _-_, _≤_, _<_}
+use Prim.Native.Nat.{ℕ, _+_, _-_, _≤_, _<_, _^_}
 use native.Mathlib.Omega.{arith}
 use mathlib.Core.List.{List, _++_}
 use mathlib.Core.Bool.{Bool, true, false, _||_}
@@ -38,7 +38,7 @@ module _ {s : List ℕ} {at : ℕ} (k : List ℕ) (v : Yaml) (es : Entries) (st 
   pub others-stand : Stands s (at + 6 + length k + length (encode v)) (encode es)
   others-stand = stands-right (encode v) (encode es) behind-key
 
-  module _ (w : length s ≤ 1048576) where
+  module _ (w : length s ≤ 2 ^ 20) where
     pub key-head : headerAt s at ≡ Item 3 (at + 6) (at + 6 + length k)
     key-head = item-head 3 k (omega arith) w key-stands
 
@@ -131,7 +131,7 @@ pub record ItemTurn (s : List ℕ) (at to : ℕ) (ys : Items) (next : ℕ) : Typ
   pub item : FirstItem s at to ys
   pub behind : Holds s next to (item .others)
 
-module _ {s : List ℕ} {at to : ℕ} (ys : Items) (w : length s ≤ 1048576) (m : at < to) (h : Holds s at to ys) where
+module _ {s : List ℕ} {at to : ℕ} (ys : Items) (w : length s ≤ 2 ^ 20) (m : at < to) (h : Holds s at to ys) where
   span-is : (f : FirstItem s at to ys) → spanAt at (headerAt s at) ≡ At at (at + length (encode (f .y)))
   unfolding spanAt
   span-is f = ap (spanAt at) (value-head (f .y) w (f .value))
@@ -165,7 +165,7 @@ pub record Turn (s : List ℕ) (at to : ℕ) (es : Entries) (start stop kind nex
   pub value : Stands s stop (encode (entry .v))
   pub behind : Lies s next to (entry .others)
 
-pub turn : {s : List ℕ} {at to start stop kind next : ℕ} {r : Pair} (es : Entries) → length s ≤ 1048576 → at < to → Paired s at r → r ≡ pairs.At start stop kind next → Lies s at to es → Turn s at to es start stop kind next
+pub turn : {s : List ℕ} {at to start stop kind next : ℕ} {r : Pair} (es : Entries) → length s ≤ 2 ^ 20 → at < to → Paired s at r → r ≡ pairs.At start stop kind next → Lies s at to es → Turn s at to es start stop kind next
 turn {s} {at} {to} {start} {stop} {kind} {next} es w m p e h =
     let f = first es m h in
     let q : pairs.At start stop kind next ≡ pairs.At (at + 6) (at + 6 + length (f .k)) (kindOf (f .v)) (at + 6 + length (f .k) + length (encode (f .v))) = sym e ∙ p (f .k) (f .v) (f .others) w (f .whole) in
@@ -180,7 +180,7 @@ turn {s} {at} {to} {start} {stop} {kind} {next} es w m p e h =
       behind = subst (λ (i : ℕ). Lies s i to (f .others)) (sym n) (f .behind);
     }
 
-pub no-entry : {s : List ℕ} {at to : ℕ} {r : Pair} {X : Type 0} (es : Entries) → length s ≤ 1048576 → at < to → Paired s at r → r ≡ pairs.Nowhere → Lies s at to es → X
+pub no-entry : {s : List ℕ} {at to : ℕ} {r : Pair} {X : Type 0} (es : Entries) → length s ≤ 2 ^ 20 → at < to → Paired s at r → r ≡ pairs.Nowhere → Lies s at to es → X
 no-entry es w m p e h =
     let f = first es m h in
     let q = p (f .k) (f .v) (f .others) w (f .whole) in

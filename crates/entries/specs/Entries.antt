@@ -1,6 +1,7 @@
--- Encoded items side by side in some bytes: where they stand, and what was found among them. Assumes nothing.
+-- Section 5 of document 01, for contracts: encoded items side by side in some bytes, where they stand, and what was found among them. Uses
+-- Tree, Encode and Places of `item`. Assumes nothing.
 use mathlib.Core.Path.{_≡_}
-use Prim.Native.Nat.{ℕ, zero, suc, _+_, _≤_}
+use Prim.Native.Nat.{ℕ, zero, suc, _+_, _≤_, _^_}
 use mathlib.Core.List.{List, [], _∷_, _++_}
 use mathlib.Core.Option.{Option, none, some}
 use lib.ListN.{length, drop}
@@ -57,7 +58,7 @@ PairPlaces s at pairs.Nowhere = Unit {0}
 -- its places, where an entry stands
 abbrev pub Paired : List ℕ → ℕ → Pair → Type 0
 Paired s at r =
-    (k : List ℕ) (v : Yaml) (es : Entries) → length s ≤ 1048576 → Stands s at (encode (pair k v es))
+    (k : List ℕ) (v : Yaml) (es : Entries) → length s ≤ 2 ^ 20 → Stands s at (encode (pair k v es))
     → r ≡ pairs.At (at + 6) (at + 6 + length k) (kindOf v) (at + 6 + length k + length (encode v))
 
 -- ---- a key's value
@@ -105,7 +106,3 @@ behind PastEnd more = Nowhere
 unfoldable pub nthItem : List ℕ → ℕ → ℕ → Span
 nthItem s at zero = spanAt at (headerAt s at)
 nthItem s at (suc skip) = behind (headerAt s at) (λ to. nthItem s to skip)
-
-unfoldable pub Entries-open : Unit {0}
-unfolding content spanAt behind nthItem
-Entries-open = tt

@@ -1,7 +1,7 @@
 // Encoded items side by side, as a sequence, a mapping or a record has them: an entry of a mapping is its key's item, then its value's.
 // The bytes may be any; where no items stand there, an answer is only within them.
 ghost use mathlib.Core.Path.{_≡_};
-ghost use Prim.Native.Nat.{_-_, _≤_};
+ghost use Prim.Native.Nat.{_-_, _≤_, _^_};
 ghost use lib.ListN.{length, take, drop};
 ghost use Rattle.item.specs.Tree.{Entries, hasKey, get};
 ghost use Rattle.item.specs.Encode.{encode};
@@ -93,7 +93,7 @@ pub fn pair_at(s: &[u8], at: usize) -> Pair
 
 // The search for a key among the entries from `from` to `to`: the place of its value.
 fn search(s: &[u8], from: usize, to: usize, key: &[u8]) -> Found
-    requires { ⌜ (to ≤ length (now s)) × (length (now s) ≤ 1048576) ⌝ }
+    requires { ⌜ (to ≤ length (now s)) × (length (now s) ≤ 2 ^ 20) ⌝ }
     ensures { λ r. ⌜ FoundInside (now (s .entry)) r ⌝ }
     ensures value { λ r. ⌜ ((es : Entries) → Lies (now (s .entry)) from to es → Seeks (now (s .entry)) (get (now (key .entry)) es) r) ⌝ }
 {
@@ -120,7 +120,7 @@ fn search(s: &[u8], from: usize, to: usize, key: &[u8]) -> Found
 
 // The place of a key's value among the entries from `from` to `to`.
 pub fn find(s: &[u8], from: usize, to: usize, key: &[u8]) -> Found
-    requires { ⌜ (to ≤ length (now s)) × (length (now s) ≤ 1048576) ⌝ }
+    requires { ⌜ (to ≤ length (now s)) × (length (now s) ≤ 2 ^ 20) ⌝ }
     ensures { λ r. ⌜ FoundInside (now (s .entry)) r ⌝ }
     ensures value { λ r. ⌜ ((es : Entries) → Holds (now (s .entry)) from to es → Finds (now (s .entry)) (get (now (key .entry)) es) r) ⌝ }
 {
@@ -129,7 +129,7 @@ pub fn find(s: &[u8], from: usize, to: usize, key: &[u8]) -> Found
 
 // Whether the key that stands in `s` from `key` to `key_end` is a key of the entries that stand there from `from` to `to`.
 pub fn has_key(s: &[u8], from: usize, to: usize, key: usize, key_end: usize) -> bool
-    requires { ⌜ (from ≤ to) × (to ≤ length (now s)) × (key ≤ «key_end») × («key_end» ≤ length (now s)) × (length (now s) ≤ 1048576) ⌝ }
+    requires { ⌜ (from ≤ to) × (to ≤ length (now s)) × (key ≤ «key_end») × («key_end» ≤ length (now s)) × (length (now s) ≤ 2 ^ 20) ⌝ }
     ensures { λ r. ⌜ ((es : Entries) → take (to - from) (drop from (now (s .entry))) ≡ encode es → r
         ≡ hasKey (take («key_end» - key) (drop key (now (s .entry)))) es) ⌝ }
 {

@@ -4,14 +4,16 @@ use Prim.Native.Nat.{ℕ}
 use Prim.Native.String.{String}
 use mathlib.Core.Option.{some}
 use lib.IntN.{negsuc}
-use Rattle.refusal.specs.Base.{Answer, good, refused, bytes, Base-open}
-use Rattle.utf8.specs.Utf8.{Utf8-open}
-use Rattle.utf8.specs.White.{White-open}
-use Rattle.item.specs.Tree.{Yaml, null, int, str, seq, dict, end, _▸_, done, pair, Tree-open}
-use Rattle.scalar.specs.Scalars.{scalarOf, keyText, Scalars-open}
+use Rattle.refusal.specs.Base.{Answer, good, refused, bytes}
+use Rattle.refusal.proofs.Open.{Base-open}
+use Rattle.utf8.proofs.Open.{Utf8-open, White-open}
+use Rattle.item.specs.Tree.{Yaml, null, int, str, seq, dict, end, _▸_, done, pair}
+use Rattle.item.proofs.Open.{Tree-open}
+use Rattle.scalar.specs.Scalars.{scalarOf, keyText}
+use Rattle.scalar.proofs.Open.{Scalars-open, Read-open}
 use Rattle.scalar.specs.declared.Role.the-variants.{AsValue}
-use Rattle.scalar.specs.Read.{Read-open}
-use Rattle.flow.specs.Flow.{flow, Flow-open}
+use Rattle.flow.specs.Flow.{flow}
+use Rattle.flow.proofs.Open.{Flow-open}
 
 s1 : scalarOf (bytes "-9223372036854775808") ≡ int (negsuc 9223372036854775807)
 unfolding Base-open Utf8-open Scalars-open

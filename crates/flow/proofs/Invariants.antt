@@ -22,11 +22,11 @@ use Rattle.scalar.specs.Read.{Got, Reader, stop}
 use Rattle.refusal.specs.declared.Refusal.{Refusal}
 use Rattle.scalar.specs.declared.Parsed.{Parsed}
 use Rattle.scalar.specs.declared.Parsed.the-variants.{Done, Refused}
-use Rattle.scalar.specs.Contract.{written, isKey, Wrote, Agrees}
+use Rattle.scalar.specs.Contract.{written, isKey, WroteValue, AgreesParsed}
 use Rattle.flow.specs.declared.PairRead.{PairRead}
 use Rattle.flow.specs.declared.PairRead.the-variants.{Done as Took, Refused as Stopped}
 use Rattle.flow.specs.Flow.{stuck, items, entries, fresh, value}
-use Rattle.flow.specs.Contract.{separates, skipSeparators, sequenceOf, mappingOf, entryOf, WroteEntry, AgreesEntry}
+use Rattle.flow.specs.Contract.{separates, skipSeparators, sequenceOf, mappingOf, entryOf, WrotePair, AgreesPair}
 use Rattle.flow.proofs.Progress.{Takes, first, value-takes, items-none, items-enough, entries-none, entries-enough, first-snoc, turn-less}
 use Rattle.flow.proofs.Cases.{comma-off, items-skip, items-close, items-stuck, items-item, entries-skip, entries-close, entries-entry}
 
@@ -141,7 +141,7 @@ module _ (s : List ℕ) (start levels n : ℕ) (old : List ℕ) (at : ℕ) (out 
     here t = ap (λ (l : List ℕ). items cap n inside (suc (length l)) (v .got) p l) (next s i h)
 
     pub list-close : getD s i 0 ≡ ch "]" → (new : List ℕ) → new ≡ sets out at (head 4 (p - at - 6)) → (role : Role)
-        → Wrote role (sequenceOf cap n levels at (drop start s)) s old new at (i + 1) p false
+        → WroteValue role (sequenceOf cap n levels at (drop start s)) s old new at (i + 1) p false
     unfolding sequenceOf _>>=_ encode isKey
     list-close e new w role =
         let c = items-close cap n inside (value-takes cap n levels true) (suc (length (drop (i + 1) s))) p (getD s i 0) (drop (i + 1) s) (v .got) sep-got (eq-eqb (getD s i 0) (ch "]") e) in
@@ -174,7 +174,7 @@ module _ (s : List ℕ) (start levels n : ℕ) (old : List ℕ) (at : ℕ) (out 
         unfolding sequenceOf _>>=_
         list-refused k l q r = rw (v .same, one-item, r)
 
-        module _ (new : List ℕ) (j q : ℕ) (key : Bool) (w : Wrote AsValue (inside AsValue p (drop i s)) s out new p j q key) where
+        module _ (new : List ℕ) (j q : ℕ) (key : Bool) (w : WroteValue AsValue (inside AsValue p (drop i s)) s out new p j q key) where
           takes : Takes cap n inside
           takes = value-takes cap n levels true
 
@@ -216,24 +216,24 @@ module _ (s : List ℕ) (start levels n : ℕ) (old : List ℕ) (at : ℕ) (out 
               }
 
 -- what a callee's answer says in each arm of a `match` on it
-pub wrote-is : (role : Role) (x : Answer (Got Yaml)) (s old new : List ℕ) (at : ℕ) (r : Parsed) → Agrees role x s old new at r → (j u : ℕ) (key : Bool) → r ≡ Done j u key
-    → Wrote role x s old new at j u key
-wrote-is role x s old new at r w j u key e = subst (Agrees role x s old new at) e w
+pub wrote-is : (role : Role) (x : Answer (Got Yaml)) (s old new : List ℕ) (at : ℕ) (r : Parsed) → AgreesParsed role x s old new at r → (j u : ℕ) (key : Bool) → r ≡ Done j u key
+    → WroteValue role x s old new at j u key
+wrote-is role x s old new at r w j u key e = subst (AgreesParsed role x s old new at) e w
 
-pub refused-is : (role : Role) (x : Answer (Got Yaml)) (s old new : List ℕ) (at : ℕ) (r : Parsed) → Agrees role x s old new at r → (z : Refusal) → r ≡ Refused z → x ≡ refusal z
-refused-is role x s old new at r w z e = subst (Agrees role x s old new at) e w
+pub refused-is : (role : Role) (x : Answer (Got Yaml)) (s old new : List ℕ) (at : ℕ) (r : Parsed) → AgreesParsed role x s old new at r → (z : Refusal) → r ≡ Refused z → x ≡ refusal z
+refused-is role x s old new at r w z e = subst (AgreesParsed role x s old new at) e w
 
 module _ (s : List ℕ) (start levels n : ℕ) (old : List ℕ) (at : ℕ) (out : List ℕ) (i p : ℕ) (v : Listed s start levels n old at out i p)
     (h : i < length s) (sep : separates (ltb (at + 6) p) (getD s i 0) ≡ false) (c : getD s i 0 ≡ ch "]" → ⊥) (e : stuck (getD s i 0) (drop (i + 1) s) ≡ false)
-    (new : List ℕ) (r : Parsed) (w : Agrees AsValue (value (length out) n levels true AsValue p (drop i s)) s out new p r) where
-  with-cap : Agrees AsValue (value (length old) n levels true AsValue p (drop i s)) s out new p r
-  with-cap = subst (λ (k : ℕ). Agrees AsValue (value k n levels true AsValue p (drop i s)) s out new p r) (v .kept) w
+    (new : List ℕ) (r : Parsed) (w : AgreesParsed AsValue (value (length out) n levels true AsValue p (drop i s)) s out new p r) where
+  with-cap : AgreesParsed AsValue (value (length old) n levels true AsValue p (drop i s)) s out new p r
+  with-cap = subst (λ (k : ℕ). AgreesParsed AsValue (value k n levels true AsValue p (drop i s)) s out new p r) (v .kept) w
 
   pub list-stops : (z : Refusal) → r ≡ Refused z → sequenceOf (length old) n levels at (drop start s) ≡ refusal z
   list-stops z q = list-refused s start levels n old at out i p v h sep c e (toldOf z .number) (toldOf z .line) (toldOf z .step) (refused-is AsValue _ s out new p r with-cap z q)
 
   module _ (j u : ℕ) (key : Bool) (q : r ≡ Done j u key) where
-    got-item : Wrote AsValue (value (length old) n levels true AsValue p (drop i s)) s out new p j u key
+    got-item : WroteValue AsValue (value (length old) n levels true AsValue p (drop i s)) s out new p j u key
     got-item = wrote-is AsValue _ s out new p r with-cap j u key q
 
     pub list-on : Listed s start levels n old at new j u
@@ -301,7 +301,7 @@ module _ (s : List ℕ) (start levels n : ℕ) (old : List ℕ) (at : ℕ) (out 
     mhere = ap (λ (l : List ℕ). entries mcap n minside (suc (length l)) (v .got) p l) (next s i h)
 
     pub map-close : getD s i 0 ≡ ch "}" → (new : List ℕ) → new ≡ sets out at (head 5 (p - at - 6)) → (role : Role)
-        → Wrote role (mappingOf mcap n levels at (drop start s)) s old new at (i + 1) p false
+        → WroteValue role (mappingOf mcap n levels at (drop start s)) s old new at (i + 1) p false
     unfolding mappingOf _>>=_ encode isKey
     map-close e new w role =
         let c = entries-close mcap n minside mtakes (suc (length (drop (i + 1) s))) p (getD s i 0) (drop (i + 1) s) (v .got) msep (eq-eqb (getD s i 0) (ch "}") e) in
@@ -329,7 +329,7 @@ module _ (s : List ℕ) (start levels n : ℕ) (old : List ℕ) (at : ℕ) (out 
       unfolding mappingOf _>>=_
       map-refused k l q r = rw (v .same, one-entry, r)
 
-      module _ (new : List ℕ) (j e q : ℕ) (w : WroteEntry (entryOf mcap n minside p (drop i s)) s out new i p j e q) where
+      module _ (new : List ℕ) (j e q : ℕ) (w : WrotePair (entryOf mcap n minside p (drop i s)) s out new i p j e q) where
         all : List ℕ
         all = encode (v .got) ++ (item 3 (w .key) ++ encode (w .tree))
 
@@ -389,18 +389,18 @@ module _ (s : List ℕ) (start levels n : ℕ) (old : List ℕ) (at : ℕ) (out 
 
 module _ (s : List ℕ) (start levels n : ℕ) (old : List ℕ) (at : ℕ) (out : List ℕ) (i p : ℕ) (v : Mapped s start levels n old at out i p)
     (h : i < length s) (sep : separates (ltb (at + 6) p) (getD s i 0) ≡ false) (c : getD s i 0 ≡ ch "}" → ⊥)
-    (new : List ℕ) (r : PairRead) (w : AgreesEntry (entryOf (length out) n (value (length out) n levels true) p (drop i s)) s out new i p r) where
-  entry-cap : AgreesEntry (entryOf (length old) n (value (length old) n levels true) p (drop i s)) s out new i p r
-  entry-cap = subst (λ (k : ℕ). AgreesEntry (entryOf k n (value k n levels true) p (drop i s)) s out new i p r) (v .kept) w
+    (new : List ℕ) (r : PairRead) (w : AgreesPair (entryOf (length out) n (value (length out) n levels true) p (drop i s)) s out new i p r) where
+  entry-cap : AgreesPair (entryOf (length old) n (value (length old) n levels true) p (drop i s)) s out new i p r
+  entry-cap = subst (λ (k : ℕ). AgreesPair (entryOf k n (value k n levels true) p (drop i s)) s out new i p r) (v .kept) w
 
   pub map-stops : (z : Refusal) → r ≡ Stopped z → mappingOf (length old) n levels at (drop start s) ≡ refusal z
   map-stops z q =
       map-refused s start levels n old at out i p v h sep c (toldOf z .number) (toldOf z .line) (toldOf z .step)
-      (subst (AgreesEntry (entryOf (length old) n (value (length old) n levels true) p (drop i s)) s out new i p) q entry-cap)
+      (subst (AgreesPair (entryOf (length old) n (value (length old) n levels true) p (drop i s)) s out new i p) q entry-cap)
 
   module _ (j e u : ℕ) (q : r ≡ Took j e u) where
-    pub got-entry : WroteEntry (entryOf (length old) n (value (length old) n levels true) p (drop i s)) s out new i p j e u
-    got-entry = subst (AgreesEntry (entryOf (length old) n (value (length old) n levels true) p (drop i s)) s out new i p) q entry-cap
+    pub got-entry : WrotePair (entryOf (length old) n (value (length old) n levels true) p (drop i s)) s out new i p j e u
+    got-entry = subst (AgreesPair (entryOf (length old) n (value (length old) n levels true) p (drop i s)) s out new i p) q entry-cap
 
     -- what the search among the entries before tells
     module _ (found : Bool) (k : (es : Entries) → take (p - (at + 6)) (drop (at + 6) new) ≡ encode es → found ≡ hasKey (take (e - (p + 6)) (drop (p + 6) new)) es) where

@@ -5,3 +5,4 @@ pub mod Cases
 pub mod Sums
 pub mod Invariants
 pub mod Values
+pub mod Open

@@ -23,19 +23,19 @@ use Rattle.scalar.specs.declared.Parsed.{Parsed}
 use Rattle.scalar.specs.declared.Parsed.the-variants.{Done, Refused}
 use Rattle.scalar.specs.Scalars.{keyText, boolText, intText}
 use Rattle.scalar.specs.Read.{Got, charge, stop, scalar, skipSpaces, endsItem, endsColon, string, doubleQuoted, singleQuoted, plain}
-use Rattle.scalar.specs.Contract.{written, isKey, Wrote, Agrees}
+use Rattle.scalar.specs.Contract.{written, isKey, WroteValue, AgreesParsed}
 use Rattle.flow.specs.Flow.{behindColon, entryValue, flowSeq, flowMap, node, value}
-use Rattle.flow.specs.Contract.{separates, skipSeparators, insideOf, sequenceOf, mappingOf, entryOf, WroteEntry}
+use Rattle.flow.specs.Contract.{separates, skipSeparators, levelsInside, sequenceOf, mappingOf, entryOf, WrotePair}
 use Rattle.flow.proofs.Progress.{Takes, value-takes, entryValue-le}
 use Rattle.flow.proofs.Invariants.{next, wrote-is, refused-is}
 
-pub agrees-of : (role : Role) (x y : Answer (Got Yaml)) (s old new : List ℕ) (at : ℕ) (r : Parsed) → x ≡ y → Agrees role y s old new at r → Agrees role x s old new at r
+pub agrees-of : (role : Role) (x y : Answer (Got Yaml)) (s old new : List ℕ) (at : ℕ) (r : Parsed) → x ≡ y → AgreesParsed role y s old new at r → AgreesParsed role x s old new at r
 agrees-of role x y s old new at (Done n u k) e w =
     record { tree = w .tree; is = e ∙ w .is; bytes = w .bytes; grows = w .grows; fits = w .fits; forward = w .forward; keyed = w .keyed }
 agrees-of role x y s old new at (Refused z) e w = e ∙ w
 
-value-node : (cap n levels : ℕ) (inFlow : Bool) (role : Role) (sum : ℕ) (bs : List ℕ) → value cap n levels inFlow role sum bs ≡ node cap n (insideOf cap n levels) inFlow role sum bs
-unfolding value insideOf
+value-node : (cap n levels : ℕ) (inFlow : Bool) (role : Role) (sum : ℕ) (bs : List ℕ) → value cap n levels inFlow role sum bs ≡ node cap n (levelsInside cap n levels) inFlow role sum bs
+unfolding value levelsInside
 value-node cap n zero inFlow role sum bs = refl
 value-node cap n (suc levels) inFlow role sum bs = refl
 
@@ -53,14 +53,14 @@ module _ (s : List ℕ) (i cap n levels : ℕ) (inFlow : Bool) (role : Role) (su
     abbrev b : ℕ
     b = getD s i 0
 
-    at : it ≡ node cap n (insideOf cap n levels) inFlow role sum (b ∷ drop (i + 1) s)
-    at = value-node cap n levels inFlow role sum (drop i s) ∙ ap (node cap n (insideOf cap n levels) inFlow role sum) (next s i h)
+    at : it ≡ node cap n (levelsInside cap n levels) inFlow role sum (b ∷ drop (i + 1) s)
+    at = value-node cap n levels inFlow role sum (drop i s) ∙ ap (node cap n (levelsInside cap n levels) inFlow role sum) (next s i h)
 
-    pub value-map : b ≡ ch "{" → it ≡ flowMap cap n (insideOf cap n levels) sum (drop (i + 1) s)
+    pub value-map : b ≡ ch "{" → it ≡ flowMap cap n (levelsInside cap n levels) sum (drop (i + 1) s)
     unfolding node if_then_else_
     value-map e = at ∙ rw e
 
-    pub value-seq : b ≡ ch "[" → it ≡ flowSeq cap n (insideOf cap n levels) sum (drop (i + 1) s)
+    pub value-seq : b ≡ ch "[" → it ≡ flowSeq cap n (levelsInside cap n levels) sum (drop (i + 1) s)
     unfolding node if_then_else_
     value-seq e = at ∙ rw e
 
@@ -94,20 +94,20 @@ module _ (s : List ℕ) (i cap n levels : ℕ) (inFlow : Bool) (role : Role) (su
 -- ---- a collection that opens
 
 module _ (cap n sum : ℕ) (bs : List ℕ) where
-  deep : (levels : ℕ) → levels ≡ 0 → (flowSeq cap n (insideOf cap n levels) sum bs ≡ refused 20 n 0) × (flowMap cap n (insideOf cap n levels) sum bs ≡ refused 20 n 0)
-  unfolding flowSeq flowMap insideOf stop
+  deep : (levels : ℕ) → levels ≡ 0 → (flowSeq cap n (levelsInside cap n levels) sum bs ≡ refused 20 n 0) × (flowMap cap n (levelsInside cap n levels) sum bs ≡ refused 20 n 0)
+  unfolding flowSeq flowMap levelsInside stop
   deep zero e = (refl, refl)
   deep (suc levels) e = absurd (omega arith)
 
   full : (levels : ℕ) → (levels ≡ 0 → ⊥) → cap < sum + 6
-      → (flowSeq cap n (insideOf cap n levels) sum bs ≡ refused 50 0 0) × (flowMap cap n (insideOf cap n levels) sum bs ≡ refused 50 0 0)
-  unfolding flowSeq flowMap insideOf charge if_then_else_ _>>=_
+      → (flowSeq cap n (levelsInside cap n levels) sum bs ≡ refused 50 0 0) × (flowMap cap n (levelsInside cap n levels) sum bs ≡ refused 50 0 0)
+  unfolding flowSeq flowMap levelsInside charge if_then_else_ _>>=_
   full zero z h = absurd (z refl)
   full (suc levels) z h = (rw (lt-leb (sum + 6) cap h), rw (lt-leb (sum + 6) cap h))
 
   opens : (levels : ℕ) → (levels ≡ 0 → ⊥) → sum + 6 ≤ cap
-      → (flowSeq cap n (insideOf cap n levels) sum bs ≡ sequenceOf cap n (levels - 1) sum bs) × (flowMap cap n (insideOf cap n levels) sum bs ≡ mappingOf cap n (levels - 1) sum bs)
-  unfolding flowSeq flowMap insideOf charge if_then_else_ _>>=_ sequenceOf mappingOf
+      → (flowSeq cap n (levelsInside cap n levels) sum bs ≡ sequenceOf cap n (levels - 1) sum bs) × (flowMap cap n (levelsInside cap n levels) sum bs ≡ mappingOf cap n (levels - 1) sum bs)
+  unfolding flowSeq flowMap levelsInside charge if_then_else_ _>>=_ sequenceOf mappingOf
   opens zero z h = absurd (z refl)
   opens (suc levels) z h = let e : suc levels - 1 ≡ levels = omega arith in (rw (le-leb (sum + 6) cap h, e), rw (le-leb (sum + 6) cap h, e))
 
@@ -118,10 +118,10 @@ module _ (s : List ℕ) (i cap n levels : ℕ) (inFlow : Bool) (role : Role) (su
   abbrev Bracket : Type 0
   Bracket = (getD s i 0 ≡ ch "{") ⊎ (getD s i 0 ≡ ch "[")
 
-  map-is : getD s i 0 ≡ ch "{" → opened ≡ flowMap cap n (insideOf cap n levels) sum (drop (i + 1) s)
+  map-is : getD s i 0 ≡ ch "{" → opened ≡ flowMap cap n (levelsInside cap n levels) sum (drop (i + 1) s)
   map-is = value-map s i cap n levels inFlow role sum h
 
-  seq-is : getD s i 0 ≡ ch "[" → opened ≡ flowSeq cap n (insideOf cap n levels) sum (drop (i + 1) s)
+  seq-is : getD s i 0 ≡ ch "[" → opened ≡ flowSeq cap n (levelsInside cap n levels) sum (drop (i + 1) s)
   seq-is = value-seq s i cap n levels inFlow role sum h
 
   pub value-deep : Bracket → levels ≡ 0 → opened ≡ refused 20 n 0
@@ -194,7 +194,7 @@ module _ (s : List ℕ) (i n levels : ℕ) (old : List ℕ) (at : ℕ) where
   unfolding entryOf _>>=_
   entry-refused k l q e = rw e
 
-  module _ (mid : List ℕ) (j u : ℕ) (key : Bool) (w : Wrote AsKey (value ecap n levels true AsKey at (drop i s)) s old mid at j u key) where
+  module _ (mid : List ℕ) (j u : ℕ) (key : Bool) (w : WroteValue AsKey (value ecap n levels true AsKey at (drop i s)) s old mid at j u key) where
     pub entry-unnamed : key ≡ false → whole ≡ refused 16 n 0
     unfolding entryOf _>>=_ given
     entry-unnamed e = rw (w .is, unnamed (w .tree) (sym (w .keyed) ∙ e))
@@ -221,8 +221,8 @@ module _ (s : List ℕ) (i n levels : ℕ) (old : List ℕ) (at : ℕ) where
           unfolding _>>=_
           entry-stops x l q r = to-value ∙ rw r
 
-          entry-done : i ≤ length s → j ≤ c → c < d → d ≤ length s → (new : List ℕ) (m t : ℕ) (key′ : Bool) → Wrote AsValue (entryValue ecap n (value ecap n levels true) u (drop d s)) s mid new u m t key′
-              → WroteEntry whole s old new i at m u t
+          entry-done : i ≤ length s → j ≤ c → c < d → d ≤ length s → (new : List ℕ) (m t : ℕ) (key′ : Bool) → WroteValue AsValue (entryValue ecap n (value ecap n levels true) u (drop d s)) s mid new u m t key′
+              → WrotePair whole s old new i at m u t
           unfolding _>>=_ written
           entry-done wi jc cd dl new m t key′ x =
               let tk : Takes ecap n (value ecap n levels true) = value-takes ecap n levels true in
@@ -244,17 +244,17 @@ module _ (s : List ℕ) (i n levels : ℕ) (old : List ℕ) (at : ℕ) where
                 forward = x .forward;
               }
 
-          module _ (new : List ℕ) (r : Parsed) (x : Agrees AsValue (entryValue (length mid) n (value (length mid) n levels true) u (drop d s)) s mid new u r) where
+          module _ (new : List ℕ) (r : Parsed) (x : AgreesParsed AsValue (entryValue (length mid) n (value (length mid) n levels true) u (drop d s)) s mid new u r) where
             mid-long : length mid ≡ length old
             mid-long = ap length (w .bytes) ∙ length-sets old at (written AsKey (w .tree))
 
-            with-old : Agrees AsValue (entryValue ecap n (value ecap n levels true) u (drop d s)) s mid new u r
-            with-old = subst (λ (k : ℕ). Agrees AsValue (entryValue k n (value k n levels true) u (drop d s)) s mid new u r) mid-long x
+            with-old : AgreesParsed AsValue (entryValue ecap n (value ecap n levels true) u (drop d s)) s mid new u r
+            with-old = subst (λ (k : ℕ). AgreesParsed AsValue (entryValue k n (value k n levels true) u (drop d s)) s mid new u r) mid-long x
 
             pub entry-halts : (z : Refusal) → r ≡ Refused z → whole ≡ refusal z
             entry-halts z q = entry-stops (toldOf z .number) (toldOf z .line) (toldOf z .step) (refused-is AsValue _ s mid new u r with-old z q)
 
-            pub entry-reads : i ≤ length s → j ≤ c → c < d → d ≤ length s → (m t : ℕ) (key′ : Bool) → r ≡ Done m t key′ → WroteEntry whole s old new i at m u t
+            pub entry-reads : i ≤ length s → j ≤ c → c < d → d ≤ length s → (m t : ℕ) (key′ : Bool) → r ≡ Done m t key′ → WrotePair whole s old new i at m u t
             entry-reads wi jc cd dl m t key′ q = entry-done wi jc cd dl new m t key′ (wrote-is AsValue _ s mid new u r with-old m t key′ q)
 
 -- ---- what stands between values

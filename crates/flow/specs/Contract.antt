@@ -1,4 +1,5 @@
--- What the readers of collections promise, and the words that their contracts need. Assumes nothing.
+-- Section 2 of document 01, for the contracts inside the crate: what the readers of collections promise. Uses Base and Told of `refusal`;
+-- Tree and Encode of `item`; Contract, Scalars and Read of `scalar`; Flow of this crate. Assumes nothing.
 use mathlib.Core.Path.{_≡_}
 use Prim.Native.Nat.{ℕ, zero, suc, _+_, _≤_, _<_}
 use mathlib.Core.List.{List, [], _∷_, _++_}
@@ -31,9 +32,9 @@ skipSeparators got [] = []
 skipSeparators got (b ∷ bs) = if separates got b then skipSeparators got bs else b ∷ bs
 
 -- how a value is read in a collection that `levels` more may be opened in
-unfoldable pub insideOf : ℕ → ℕ → ℕ → Option Reader
-insideOf cap n zero = none
-insideOf cap n (suc levels) = some (λ r s b. value cap n levels true r s b)
+unfoldable pub levelsInside : ℕ → ℕ → ℕ → Option Reader
+levelsInside cap n zero = none
+levelsInside cap n (suc levels) = some (λ r s b. value cap n levels true r s b)
 
 -- the sequence behind a `[`, whose six bytes at `at` are taken, and the mapping behind a `{`
 unfoldable pub sequenceOf : ℕ → ℕ → ℕ → ℕ → List ℕ → Answer (Got Yaml)
@@ -56,7 +57,7 @@ entryOf cap n inside sum bs = do
   good ((key, v), sum₂, rest₃)
 
 -- an entry read from `s` behind `i` up to `next`, its key written from `at` up to `keyEnd`, and its value behind it
-pub record WroteEntry (answer : Answer (Got (List ℕ × Yaml))) (s old new : List ℕ) (i at next keyEnd used : ℕ) : Type 0 where
+pub record WrotePair (answer : Answer (Got (List ℕ × Yaml))) (s old new : List ℕ) (i at next keyEnd used : ℕ) : Type 0 where
   pub key : List ℕ
   pub tree : Yaml
   pub is : answer ≡ good ((key, tree), used, drop next s)
@@ -67,9 +68,9 @@ pub record WroteEntry (answer : Answer (Got (List ℕ × Yaml))) (s old new : Li
   pub on : i < next
   pub forward : next ≤ length s
 
-abbrev pub AgreesEntry : Answer (Got (List ℕ × Yaml)) → List ℕ → List ℕ → List ℕ → ℕ → ℕ → PairRead → Type 0
-AgreesEntry answer s old new i at (Done next keyEnd used) = WroteEntry answer s old new i at next keyEnd used
-AgreesEntry answer s old new i at (Refused e) = answer ≡ refusal e
+abbrev pub AgreesPair : Answer (Got (List ℕ × Yaml)) → List ℕ → List ℕ → List ℕ → ℕ → ℕ → PairRead → Type 0
+AgreesPair answer s old new i at (Done next keyEnd used) = WrotePair answer s old new i at next keyEnd used
+AgreesPair answer s old new i at (Refused e) = answer ≡ refusal e
 
 -- a part of a line that is one value, written from `at` up to `used`
 pub record WroteWhole (role : Role) (answer : Answer (Yaml × ℕ)) (old new : List ℕ) (at used : ℕ) (key : Bool) : Type 0 where

@@ -1,4 +1,5 @@
--- What a part of a line comes to once its value is read. Assumes nothing.
+-- Section 2 of document 01, for the contracts of the `Cursor`: what a part of a line comes to once its value is read. Uses Base of
+-- `refusal`; Read of `scalar`. Assumes nothing.
 use Prim.Native.Nat.{ℕ, _≤_}
 use mathlib.Core.List.{List}
 use lib.ListN.{length, drop}
@@ -11,9 +12,9 @@ use Rattle.flow.specs.declared.Whole.{Whole}
 use Rattle.flow.specs.declared.Whole.the-variants.{Read, Refused as Stopped}
 
 -- a value that was read ends within the part
-abbrev pub Within : List ℕ → Parsed → Type 0
-Within s (Done j u key) = j ≤ length s
-Within s (Refused e) = Unit {0}
+abbrev pub EndsWithin : List ℕ → Parsed → Type 0
+EndsWithin s (Done j u key) = j ≤ length s
+EndsWithin s (Refused e) = Unit {0}
 
 -- 8: nothing but spaces may stand behind it
 unfoldable pub finishOf : List ℕ → Parsed → ℕ → Whole

@@ -1,4 +1,5 @@
--- Section 2 of document 01: one line's value, its flow sequences and flow mappings (`Cursor`). Assumes nothing.
+-- Section 2 of document 01: one line's value, its flow sequences and flow mappings (`Cursor`). Uses Base of `refusal`; Tree of `item`;
+-- Scalars and Read of `scalar`. Assumes nothing.
 use Prim.Native.Nat.{ℕ, zero, suc}
 use mathlib.Core.List.{List, [], _∷_}
 use mathlib.Core.Bool.{Bool, true, false, _&&_, _||_, not}
@@ -105,7 +106,3 @@ module _ (cap number : ℕ) where
     (y, sum′, rest) ← value levels false role sum (skipSpaces t)
     ensure (empty (skipSpaces rest)) 8 number 0
     good (y, sum′)
-
-unfoldable pub Flow-open : Unit {0}
-unfolding stuck itemTurn items behindColon fresh entryValue entryTurn entries flowSeq flowMap node value flow
-Flow-open = tt

@@ -4,17 +4,17 @@
 ghost use mathlib.Core.Path.{_≡_};
 ghost use mathlib.Core.Logic.{_⊎_};
 ghost use mathlib.Core.Bool.{Bool, true, false};
-ghost use Prim.Native.Nat.{_+_, _≤_, _<_};
+ghost use Prim.Native.Nat.{_+_, _≤_, _<_, _^_};
 ghost use lib.ListN.{length, drop, getD};
 ghost use Rattle.scalar.specs.declared.Role.{Role as Roles};
 ghost use Rattle.scalar.specs.declared.Role.the-variants.{AsValue};
 ghost use Rattle.scalar.specs.Read.{skipSpaces};
-ghost use Rattle.scalar.specs.Contract.{Agrees};
+ghost use Rattle.scalar.specs.Contract.{AgreesParsed};
 ghost use Rattle.flow.specs.Flow as definition;
 ghost use Rattle.flow.specs.Flow.{entryValue};
 ghost use Rattle.flow.specs.Contract as agree;
-ghost use Rattle.flow.specs.Contract.{skipSeparators, sequenceOf, mappingOf, entryOf, AgreesEntry, AgreesWhole};
-ghost use Rattle.flow.specs.Ends.{Within, finishOf};
+ghost use Rattle.flow.specs.Contract.{skipSeparators, sequenceOf, mappingOf, entryOf, AgreesPair, AgreesWhole};
+ghost use Rattle.flow.specs.Ends.{EndsWithin, finishOf};
 use item::put_header;
 use refusal::Refusal;
 use scalar::Parsed;
@@ -105,8 +105,9 @@ fn stuck(s: &[u8], i: usize) -> bool
 
 // The items behind a `[`. The header's six bytes are taken, and filled in when the sequence closes.
 fn sequence(s: &[u8], start: usize, levels: usize, line: u32, out: &mut [u8], at: usize) -> Parsed
-    requires { ⌜ (start ≤ length (now s)) × (length (now s) ≤ 65535) × (at + 6 ≤ length (now out)) × (length (now out) ≤ 1048576) ⌝ }
-    ensures { λ r. ⌜ ((role : Roles) → Agrees role (sequenceOf (length (now (out .entry))) line levels at (drop start (now (s .entry))))
+    requires { ⌜ (start ≤ length (now s)) × (length (now s) ≤ 65535) × (at + 6 ≤ length (now out)) × (length (now out) ≤ 2 ^ 20) ⌝ }
+    ensures { λ r. ⌜ ((role : Roles) → AgreesParsed role (sequenceOf (length (now (out .entry))) line levels at (drop start (now
+        (s .entry))))
         (now (s .entry)) (now (out .entry)) (now (out .exit)) at r) ⌝ }
 {
     let mut i = start;
@@ -139,8 +140,8 @@ fn sequence(s: &[u8], start: usize, levels: usize, line: u32, out: &mut [u8], at
 
 // The value of an entry, which a comma or a closing brace leaves out.
 fn entry_value(s: &[u8], i: usize, levels: usize, line: u32, out: &mut [u8], at: usize) -> Parsed
-    requires { ⌜ (i ≤ length (now s)) × (length (now s) ≤ 65535) × (at ≤ length (now out)) × (length (now out) ≤ 1048576) ⌝ }
-    ensures { λ r. ⌜ Agrees AsValue (entryValue (length (now (out .entry))) line
+    requires { ⌜ (i ≤ length (now s)) × (length (now s) ≤ 65535) × (at ≤ length (now out)) × (length (now out) ≤ 2 ^ 20) ⌝ }
+    ensures { λ r. ⌜ AgreesParsed AsValue (entryValue (length (now (out .entry))) line
         (definition.value (length (now (out .entry))) line levels true) at (drop i (now (s .entry)))) (now (s .entry)) (now (out .entry))
         (now (out .exit)) at r ⌝ }
 {
@@ -158,8 +159,8 @@ fn entry_value(s: &[u8], i: usize, levels: usize, line: u32, out: &mut [u8], at:
 
 // A key, a colon and a value.
 fn entry(s: &[u8], i: usize, levels: usize, line: u32, out: &mut [u8], at: usize) -> PairRead
-    requires { ⌜ (i ≤ length (now s)) × (length (now s) ≤ 65535) × (at ≤ length (now out)) × (length (now out) ≤ 1048576) ⌝ }
-    ensures { λ r. ⌜ AgreesEntry (entryOf (length (now (out .entry))) line (definition.value (length (now (out .entry))) line levels true)
+    requires { ⌜ (i ≤ length (now s)) × (length (now s) ≤ 65535) × (at ≤ length (now out)) × (length (now out) ≤ 2 ^ 20) ⌝ }
+    ensures { λ r. ⌜ AgreesPair (entryOf (length (now (out .entry))) line (definition.value (length (now (out .entry))) line levels true)
         at (drop i (now (s .entry)))) (now (s .entry)) (now (out .entry)) (now (out .exit)) i at r ⌝ }
 {
     match value(s, i, levels, true, Role::AsKey, line, out, at) {
@@ -193,8 +194,9 @@ fn entry(s: &[u8], i: usize, levels: usize, line: u32, out: &mut [u8], at: usize
 
 // The entries behind a `{`.
 fn mapping(s: &[u8], start: usize, levels: usize, line: u32, out: &mut [u8], at: usize) -> Parsed
-    requires { ⌜ (start ≤ length (now s)) × (length (now s) ≤ 65535) × (at + 6 ≤ length (now out)) × (length (now out) ≤ 1048576) ⌝ }
-    ensures { λ r. ⌜ ((role : Roles) → Agrees role (mappingOf (length (now (out .entry))) line levels at (drop start (now (s .entry))))
+    requires { ⌜ (start ≤ length (now s)) × (length (now s) ≤ 65535) × (at + 6 ≤ length (now out)) × (length (now out) ≤ 2 ^ 20) ⌝ }
+    ensures { λ r. ⌜ ((role : Roles) → AgreesParsed role (mappingOf (length (now (out .entry))) line levels at (drop start (now
+        (s .entry))))
         (now (s .entry)) (now (out .entry)) (now (out .exit)) at r) ⌝ }
 {
     let mut i = start;
@@ -232,8 +234,8 @@ fn mapping(s: &[u8], start: usize, levels: usize, line: u32, out: &mut [u8], at:
 // A collection that opens at `i`.
 fn collection(s: &[u8], i: usize, levels: usize, line: u32, out: &mut [u8], at: usize) -> Parsed
     requires { ⌜ (i < length (now s)) × ((getD (now s) i 0 ≡ 123) ⊎ (getD (now s) i 0 ≡ 91)) × (length (now s) ≤ 65535)
-        × (at ≤ length (now out)) × (length (now out) ≤ 1048576) ⌝ }
-    ensures { λ r. ⌜ ((inFlow : Bool) (role : Roles) → Agrees role
+        × (at ≤ length (now out)) × (length (now out) ≤ 2 ^ 20) ⌝ }
+    ensures { λ r. ⌜ ((inFlow : Bool) (role : Roles) → AgreesParsed role
         (definition.value (length (now (out .entry))) line levels inFlow role at (drop i (now (s .entry)))) (now (s .entry))
         (now (out .entry)) (now (out .exit)) at r) ⌝ }
 {
@@ -259,8 +261,8 @@ fn value(
     out: &mut [u8],
     at: usize,
 ) -> Parsed
-    requires { ⌜ (i ≤ length (now s)) × (length (now s) ≤ 65535) × (at ≤ length (now out)) × (length (now out) ≤ 1048576) ⌝ }
-    ensures { λ r. ⌜ Agrees role (definition.value (length (now (out .entry))) line levels in_flow role at (drop i (now (s .entry))))
+    requires { ⌜ (i ≤ length (now s)) × (length (now s) ≤ 65535) × (at ≤ length (now out)) × (length (now out) ≤ 2 ^ 20) ⌝ }
+    ensures { λ r. ⌜ AgreesParsed role (definition.value (length (now (out .entry))) line levels in_flow role at (drop i (now (s .entry))))
         (now (s .entry)) (now (out .entry)) (now (out .exit)) at r ⌝ }
 {
     if i == s.len() {
@@ -280,7 +282,7 @@ fn value(
 
 // What a part of a line comes to once its value is read: nothing but spaces may stand behind the value.
 fn finish(s: &[u8], p: Parsed, line: u32) -> Whole
-    requires { ⌜ Within (now s) p ⌝ }
+    requires { ⌜ EndsWithin (now s) p ⌝ }
     ensures { λ r. ⌜ r ≡ finishOf (now (s .entry)) p line ⌝ }
 {
     match p {
@@ -322,8 +324,8 @@ impl<'a> Cursor<'a> {
     // The value at the place. `number` is the line's number.
     pub fn value(self, in_flow: bool, role: Role, number: u32, out: &mut [u8], at: usize) -> Parsed
         requires { ⌜ (self .at ≤ length (now (self .line))) × (length (now (self .line)) ≤ 65535) × (at ≤ length (now out))
-            × (length (now out) ≤ 1048576) ⌝ }
-        ensures { λ r. ⌜ Agrees role (definition.value (length (now (out .entry))) number (self .entry .levels) in_flow role at
+            × (length (now out) ≤ 2 ^ 20) ⌝ }
+        ensures { λ r. ⌜ AgreesParsed role (definition.value (length (now (out .entry))) number (self .entry .levels) in_flow role at
             (drop (self .entry .at) (now (self .entry .line)))) (now (self .entry .line)) (now (out .entry)) (now (out .exit)) at r ⌝ }
     {
         value(
@@ -341,7 +343,7 @@ impl<'a> Cursor<'a> {
 
 // A part of a line that is one value.
 pub fn flow(s: &[u8], levels: usize, role: Role, line: u32, out: &mut [u8], at: usize) -> Whole
-    requires { ⌜ (length (now s) ≤ 65535) × (at ≤ length (now out)) × (length (now out) ≤ 1048576) ⌝ }
+    requires { ⌜ (length (now s) ≤ 65535) × (at ≤ length (now out)) × (length (now out) ≤ 2 ^ 20) ⌝ }
     ensures { λ r. ⌜ AgreesWhole role (definition.flow (length (now (out .entry))) line levels role at (now (s .entry)))
         (now (out .entry)) (now (out .exit)) at r ⌝ }
 {

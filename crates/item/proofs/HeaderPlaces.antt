@@ -30,7 +30,7 @@ module _ (s : List ℕ) (i : ℕ) where
   two-at h = simp towards-suc (rw (take-next s i 1 (omega arith), take-next s (suc i) 0 (omega arith)) (omega arith))
 
   pub four-at : i + 4 ≤ length s
-      → number (take 4 (drop i s)) ≡ getD s i 0 + 256 * getD s (i + 1) 0 + 65536 * getD s (i + 2) 0 + 16777216 * getD s (i + 3) 0
+      → number (take 4 (drop i s)) ≡ getD s i 0 + 256 * getD s (i + 1) 0 + 65536 * getD s (i + 2) 0 + 2 ^ 24 * getD s (i + 3) 0
   unfolding number
   four-at h =
       simp towards-suc

@@ -1,4 +1,5 @@
--- Items read back: a tree of at most so many levels in front of a list of bytes, and what is left behind it. Assumes nothing.
+-- Section 5 of document 01, kinds 0 to 5, read back: a tree of at most so many levels in front of a list of bytes, and what is left behind
+-- it. Uses Base of `refusal`; Tree and Encode of this crate. Assumes nothing.
 use Prim.Native.Nat.{ℕ, zero, suc, _-_, _^_}
 use mathlib.Core.List.{List, [], _∷_}
 use mathlib.Core.Bool.{Bool, true, false, _&&_}
@@ -91,7 +92,3 @@ node inside bs = do
 unfoldable pub decode : ℕ → Decoder Yaml
 decode zero bs = node none bs
 decode (suc levels) bs = node (some (λ r. decode levels r)) bs
-
-unfoldable pub Decode-open : Unit {0}
-unfolding _>>=_ header nothing unflag untwos unint unkey decodeItems decodeEntries contentOf node decode
-Decode-open = tt

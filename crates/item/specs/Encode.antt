@@ -1,4 +1,4 @@
--- Section 5 of document 01, kinds 0 to 5: the items that trees are written as. Assumes nothing.
+-- Section 5 of document 01, kinds 0 to 5: the items that trees are written as. Uses Tree of this crate. Assumes nothing.
 use Prim.Native.Nat.{ℕ, zero, suc, _+_, _-_, _*_, _/_, _%_, _<_}
 use mathlib.Core.List.{List, [], _∷_, _++_}
 use mathlib.Core.Bool.{Bool, true, false}
@@ -63,7 +63,3 @@ kindOf (int z) = 2
 kindOf (str s) = 3
 kindOf (seq ys) = 4
 kindOf (dict es) = 5
-
-unfoldable pub Encode-open : Unit {0}
-unfolding le number head item flag twos signed encode kindOf
-Encode-open = tt

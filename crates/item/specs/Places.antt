@@ -1,7 +1,7 @@
--- The item at a place of some bytes, by its header. Assumes nothing.
-use mathlib.Core.Path.{_≡_, _∙_}
-use Prim.Native.Nat.{ℕ, _+_, _-_, _*_, _≤_, _<_, _^_}
-use mathlib.Core.List.{List, _∷_, _++_}
+-- Section 5 of document 01, for contracts: the item at a place of some bytes, by its header. Uses Base of `refusal`; Encode of this crate.
+-- Assumes nothing.
+use Prim.Native.Nat.{ℕ, _+_}
+use mathlib.Core.List.{List}
 use lib.Dec.{ltb}
 use lib.ListN.{length, take, drop}
 use Rattle.refusal.specs.Base.{if_then_else_}

@@ -1,4 +1,5 @@
--- Trees: what a text says, before it is asked whether it is a scenario. Assumes nothing.
+-- Sections 2 and 3 of document 01: trees, which are what a text says before it is asked whether it is a scenario. Uses Base of `refusal`.
+-- Assumes nothing.
 use Prim.Native.Nat.{ℕ, suc, max, _^_, _<_}
 use mathlib.Core.List.{List}
 use mathlib.Core.Bool.{Bool, true, false, _||_}
@@ -86,7 +87,3 @@ hasKey k (pair j v es) = same j k || hasKey k es
 unfoldable pub get : List ℕ → Entries → Option Yaml
 get k done = none
 get k (pair j v es) = if same j k then some v else get k es
-
-unfoldable pub Tree-open : Unit {0}
-unfolding levels _◂_ noItem add noEntry hasKey get
-Tree-open = tt

@@ -1,12 +1,15 @@
 // Items, the bytes that trees and records are made of: content length (4 bytes), kind (2 bytes), both little-endian, then the content.
 ghost use mathlib.Core.Path.{_≡_};
-ghost use Prim.Native.Nat.{_+_, _≤_, _<_};
+ghost use Prim.Native.Nat.{_+_, _≤_, _<_, _^_};
 ghost use lib.ListN.{length, take, drop, replicate};
 ghost use lib.Seq.{sets};
 ghost use Rattle.refusal.specs.Base.{same};
 ghost use Rattle.item.specs.Tree.{null, bool, int, str};
 ghost use Rattle.item.specs.Encode.{le, number, head, twos, signed, encode};
 ghost use Rattle.item.specs.Places.{headerAt};
+
+// Of a lent output at most so many bytes count, and a record has at most so many.
+pub const LIMIT: usize = 1048576;
 
 // What stands at a place of some bytes.
 pub enum Header {
@@ -25,7 +28,7 @@ pub enum Found {
 }
 
 pub fn put_header(out: &mut [u8], at: usize, kind: usize, size: usize)
-    requires { ⌜ (at + 6 ≤ length (now out)) × (kind < 65536) × (size < 4294967296) ⌝ }
+    requires { ⌜ (at + 6 ≤ length (now out)) × (kind < 2 ^ 16) × (size < 2 ^ 32) ⌝ }
     ensures { λ _. ⌜ now (out .exit) ≡ sets (now (out .entry)) at (head kind size) ⌝ }
 {
     out[at] = (size % 256) as u8;
@@ -98,7 +101,7 @@ pub fn copy(out: &mut [u8], at: usize, s: &[u8])
 }
 
 pub fn put_string(out: &mut [u8], at: usize, s: &[u8])
-    requires { ⌜ (at + 6 + length (now s) ≤ length (now out)) × (length (now s) < 4294967296) ⌝ }
+    requires { ⌜ (at + 6 + length (now s) ≤ length (now out)) × (length (now s) < 2 ^ 32) ⌝ }
     ensures { λ _. ⌜ now (out .exit) ≡ sets (now (out .entry)) at (encode (str (now (s .entry)))) ⌝ }
 {
     put_header(out, at, 3, s.len());
@@ -114,7 +117,7 @@ fn wide(b: u8) -> usize
 
 fn size_at(s: &[u8], at: usize) -> usize
     requires { ⌜ at + 4 ≤ length (now s) ⌝ }
-    ensures { λ r. ⌜ (r ≡ number (take 4 (drop at (now (s .entry))))) × (r < 4294967296) ⌝ }
+    ensures { λ r. ⌜ (r ≡ number (take 4 (drop at (now (s .entry))))) × (r < 2 ^ 32) ⌝ }
 {
     let a = wide(s[at]);
     let b = wide(s[at + 1]);

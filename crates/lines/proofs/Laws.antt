@@ -55,7 +55,20 @@ module _ (s : List ℕ) (i : ℕ) where
       let z3 = neither (is i || is (i + 1) || is (i + 2)) (is (i + 3)) (z4 .0) in
       let z2 = neither (is i || is (i + 1)) (is (i + 2)) (z3 .0) in
       let z1 = neither (is i) (is (i + 1)) (z2 .0) in
-      omega (arith, to i (i + 1) (omega arith) (omega arith) (z1 .0), to (i + 1) (i + 2) (omega arith) (omega arith) (z1 .1), to (i + 2) (i + 3) (omega arith) (omega arith) (z2 .1), to (i + 3) (i + 4) (omega arith) (omega arith) (z3 .1), to (i + 4) (i + 5) (omega arith) (omega arith) (z4 .1), to (i + 5) (i + 6) (omega arith) (omega arith) (z5 .1), to (i + 6) (i + 7) (omega arith) (omega arith) (z6 .1), to (i + 7) (i + 8) (omega arith) (omega arith) (z7 .1))
+      omega (
+        arith,
+        to i (i + 1) (omega arith) (omega arith) (z1 .0),
+        to (i + 1) (i + 2) (omega arith) (omega arith) (z1 .1),
+        to (i + 2) (i + 3) (omega arith)
+            (omega arith) (z2 .1),
+        to (i + 3) (i + 4) (omega arith) (omega arith) (z3 .1),
+        to (i + 4) (i + 5) (omega arith) (omega arith) (z4 .1),
+        to (i + 5)
+            (i + 6) (omega arith) (omega arith) (z5 .1),
+        to (i + 6) (i + 7) (omega arith) (omega arith) (z6 .1),
+        to (i + 7) (i + 8) (omega arith) (omega arith)
+            (z7 .1),
+      )
     where
       to : (i j : ℕ) → j ≡ i + 1 → i < length s → is i ≡ false → untilNewline (drop i s) ≡ suc (untilNewline (drop j s))
       to i j e h n = newline-on s i h (eqb-false (getD s i 0) (ch "\n") n) ∙ ap (λ (k : ℕ). suc (untilNewline (drop k s))) (sym e)

@@ -1,6 +1,7 @@
 pub mod Ends
 pub mod Laws
 pub mod Rows
-pub mod StepLaws
+pub mod ScanLaws
 pub mod TableLaws
 pub mod LineEnds
+pub mod Open

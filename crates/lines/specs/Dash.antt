@@ -1,4 +1,4 @@
--- Sections 3 and 4 of document 01: a line with a dash. Assumes nothing.
+-- Sections 3 and 4 of document 01: a line with a dash. Uses Base of `refusal`; Lines of this crate. Assumes nothing.
 use Prim.Native.Nat.{ℕ}
 use mathlib.Core.List.{List}
 use mathlib.Core.Bool.{Bool, _&&_, _||_}

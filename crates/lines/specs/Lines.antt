@@ -1,4 +1,4 @@
--- Section 1 of document 01: the significant lines of a text. Assumes nothing.
+-- Section 1 of document 01: the significant lines of a text. Uses Base of `refusal`; White of `utf8`. Assumes nothing.
 use Prim.Native.Nat.{ℕ, zero, suc, _-_}
 use mathlib.Core.List.{List, [], _∷_, _++_}
 use mathlib.Core.Bool.{Bool, false, _&&_, _||_}
@@ -142,9 +142,9 @@ collect room (bad k n ∷ es) = refused k n 0
 collect zero (entry l ∷ es) = refused 3 (l .number) 0
 collect (suc room) (entry l ∷ es) = collect room es >>= λ ls. good (l ∷ ls)
 
-unfoldable pub significantLines : List ℕ → Answer (List Line)
-significantLines text = collect 2048 (scan Closed 0 1 (splitLines text))
+-- a text has at most so many entries
+abbrev pub mostLines : ℕ
+mostLines = 2048
 
-unfoldable pub Lines-open : Unit {0}
-unfolding beginsNewline prepend splitLines indentOf hasTab tabbed afterPlain placeAfter startsComment uncommented stripComment significant isMarker opensLiteral eventsOf literalOf literalAfter blanksBefore bodyOf scan collect significantLines
-Lines-open = tt
+unfoldable pub significantLines : List ℕ → Answer (List Line)
+significantLines text = collect mostLines (scan Closed 0 1 (splitLines text))

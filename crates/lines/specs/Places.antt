@@ -1,8 +1,8 @@
--- Where the lines of a text begin and end, by places. Assumes nothing.
-use mathlib.Core.Path.{_≡_, _∙_}
-use Prim.Native.Nat.{ℕ, suc, _+_, _-_, _≤_, _<_}
+-- Section 1 of document 01, for the contracts inside the crate: where the lines of a text begin and end, by places. Uses Base of `refusal`;
+-- Part of `utf8`; Lines of this crate. Assumes nothing.
+use mathlib.Core.Path.{_≡_}
+use Prim.Native.Nat.{ℕ, suc, _+_, _≤_, _<_}
 use mathlib.Core.List.{List, [], _∷_, _++_}
-use mathlib.Core.Bool.{_&&_}
 use lib.Dec.{eqb}
 use lib.ListN.{length, drop}
 use Rattle.refusal.specs.Base.{if_then_else_, ch}

@@ -1,4 +1,5 @@
--- The table of line entries, and what it means that a step of the scan filled it. Assumes nothing.
+-- Section 1 of document 01, for contracts: the table of line entries, and what it means that a line of the scan filled it. Uses Base and
+-- Told of `refusal`; Part of `utf8`; Lines of this crate. Assumes nothing.
 use mathlib.Core.Path.{_≡_}
 use Prim.Native.Nat.{ℕ, zero, suc, _+_, _*_, _-_, _≤_, _<_}
 use mathlib.Core.List.{List, [], _∷_, _++_}
@@ -7,11 +8,15 @@ use Rattle.refusal.specs.Base.{Answer, good, _>>=_}
 use Rattle.refusal.specs.Told.{refusal}
 use Rattle.utf8.specs.Part.{part}
 use Rattle.lines.specs.declared.Entry.{Entry}
-use Rattle.lines.specs.declared.Step.{Step}
-use Rattle.lines.specs.declared.Step.the-variants.{Next, Refused as Stopped}
+use Rattle.lines.specs.declared.LineTaken.{LineTaken}
+use Rattle.lines.specs.declared.LineTaken.the-variants.{Next, Refused as Stopped}
 use Rattle.lines.specs.declared.LinesAnswer.{LinesAnswer}
 use Rattle.lines.specs.declared.LinesAnswer.the-variants.{Read, Refused}
-use Rattle.lines.specs.Lines.{Line, line, Event, scan, collect, significantLines}
+use Rattle.lines.specs.Lines.{Line, line, Event, scan, collect, mostLines, significantLines}
+
+-- four numbers for each entry
+abbrev pub tableSize : ℕ
+tableSize = 4 * mostLines
 
 -- the numbers of entry `i`: its indentation, the start and the end of its text, its line's number
 abbrev pub indentAt : List ℕ → ℕ → ℕ
@@ -53,15 +58,15 @@ pub record IsEntry (table : List ℕ) (i : ℕ) (entry : Entry) : Type 0 where
 
 -- the answer and the table are those of the definition; a refusal leaves anything in the table
 pub record Filled (text table : List ℕ) (count : ℕ) : Type 0 where
-  pub few : count ≤ 2048
+  pub few : count ≤ mostLines
   pub lines : significantLines text ≡ good (tableLines text table count)
   pub placed : Placed text table count
 
-abbrev pub Agrees : List ℕ → List ℕ → LinesAnswer → Type 0
-Agrees text table (Read count) = Filled text table count
-Agrees text table (Refused e) = significantLines text ≡ refusal e
+abbrev pub AgreesLines : List ℕ → List ℕ → LinesAnswer → Type 0
+AgreesLines text table (Read count) = Filled text table count
+AgreesLines text table (Refused e) = significantLines text ≡ refusal e
 
--- ---- one step
+-- ---- one line
 
 -- the lines of an answer behind those that are there
 unfoldable pub behind : List Line → Answer (List Line) → Answer (List Line)
@@ -69,16 +74,16 @@ behind ls a = a >>= λ rest. good (ls ++ rest)
 
 -- what is read with `count` entries in the table and these events to come
 abbrev pub reading : List ℕ → List ℕ → ℕ → List Event → Answer (List Line)
-reading text table count events = behind (tableLines text table count) (collect (2048 - count) events)
+reading text table count events = behind (tableLines text table count) (collect (mostLines - count) events)
 
 -- some events, taken into the table
 pub record Took (text old new : List ℕ) (count next : ℕ) (before after : List Event) : Type 0 where
-  pub few : next ≤ 2048
+  pub few : next ≤ mostLines
   pub reads : reading text old count before ≡ reading text new next after
   pub placed : Placed text old count → Placed text new next
 
 -- a line taken into the table: what the scan gives from it on is what it gives behind it
-abbrev pub Takes : List ℕ → List ℕ → List ℕ → ℕ → ℕ → (List (List ℕ) → List Event) → Step → Type 0
+abbrev pub Takes : List ℕ → List ℕ → List ℕ → ℕ → ℕ → (List (List ℕ) → List Event) → LineTaken → Type 0
 Takes text old new count n from (Next next literal waiting) =
     (waiting ≤ n) × ((raws : List (List ℕ)) → Took text old new count next (from raws) (scan literal waiting (n + 1) raws))
-Takes text old new count n from (Stopped e) = (raws : List (List ℕ)) → collect (2048 - count) (from raws) ≡ refusal e
+Takes text old new count n from (Stopped e) = (raws : List (List ℕ)) → collect (mostLines - count) (from raws) ≡ refusal e

@@ -2,22 +2,28 @@
 ghost use mathlib.Core.Path.{_≡_};
 ghost use mathlib.Core.Bool.{false};
 ghost use mathlib.Core.List.{List, [], _∷_, _++_};
-ghost use Prim.Native.Nat.{ℕ, _+_, _*_, _≤_, _<_};
+ghost use Prim.Native.Nat.{ℕ, _+_, _*_, _≤_, _<_, _^_};
 ghost use lib.ListN.{length, drop};
 ghost use lib.Seq.{sets};
 ghost use Rattle.refusal.specs.Base.{endsWith};
 ghost use Rattle.utf8.specs.Part.{part};
-ghost use Rattle.lines.specs.Lines.{indentOf, tabbed, afterPlain, placeAfter, startsComment, stripComment, isMarker, opensLiteral, literalOf, Event, blanksBefore, scan};
+ghost use Rattle.lines.specs.Lines.{indentOf, tabbed, afterPlain, placeAfter, startsComment, stripComment, isMarker, opensLiteral};
+ghost use Rattle.lines.specs.Lines.{literalOf, Event, blanksBefore, scan, mostLines};
 ghost use Rattle.lines.specs.Dash as definition;
 ghost use Rattle.lines.specs.Dash.{isDash};
 ghost use Rattle.lines.specs.Places.{untilNewline, LineEnds, IsRaw, RawAt, rawText, normal, body};
-ghost use Rattle.lines.specs.Table.{lineAt, Took, Takes, Agrees, IsEntry};
+ghost use Rattle.lines.specs.Table.{tableSize, lineAt, Took, Takes, AgreesLines, IsEntry};
 ghost use Rattle.lines.specs.Ready.{Ready};
 use item::same_bytes;
 use refusal::Refusal;
 use utf8::trim_end;
 use utf8::trim_start;
 use utf8::white_at;
+
+// The most entries that a text may have, and the numbers of their table, four for each.
+pub const MOST_LINES: usize = 2048;
+
+pub const TABLE: usize = 8192;
 
 // Where a byte stands that is looked at for a comment: outside quotes, first or after a space, or elsewhere; in single or in
 // double quotes; behind a `\` in double quotes.
@@ -57,7 +63,7 @@ pub struct Entry {
 }
 
 // What is known behind a line: how many entries there are, what is open, and how many blank lines of it wait.
-pub enum Step {
+pub enum LineTaken {
     Next {
         count: usize,
         literal: Literal,
@@ -274,7 +280,8 @@ fn literal_after(t: &[u8], indent: usize) -> Literal
 }
 
 fn put_entry(table: &mut [u16], at: usize, indent: usize, from: usize, to: usize, number: usize)
-    requires { ⌜ (length (now table) ≡ 8192) × (at < 2048) × (indent < 65536) × (from < 65536) × (to < 65536) × (number < 65536) ⌝ }
+    requires { ⌜ (length (now table) ≡ tableSize) × (at < mostLines) × (indent < 2 ^ 16) × (from < 2 ^ 16) × (to < 2 ^ 16)
+        × (number < 2 ^ 16) ⌝ }
     ensures { λ _. ⌜ now (table .exit) ≡ sets (now (table .entry)) (4 * at) (indent ∷ from ∷ to ∷ number ∷ []) ⌝ }
 {
     table[4 * at] = indent as u16;
@@ -285,7 +292,8 @@ fn put_entry(table: &mut [u16], at: usize, indent: usize, from: usize, to: usize
 
 // The blank lines that wait before line `number`.
 fn put_blanks(table: &mut [u16], at: usize, waiting: usize, indent: usize, number: usize)
-    requires { ⌜ (length (now table) ≡ 8192) × (at + waiting ≤ 2048) × (waiting ≤ number) × (indent < 65536) × (number < 65536) ⌝ }
+    requires { ⌜ (length (now table) ≡ tableSize) × (at + waiting ≤ mostLines) × (waiting ≤ number) × (indent < 2 ^ 16)
+        × (number < 2 ^ 16) ⌝ }
     ensures { λ _. ⌜ ((text : List ℕ) (es : List Event)
         → Took text (now (table .entry)) (now (table .exit)) at (at + waiting) (blanksBefore waiting number indent ++ es) es) ⌝ }
 {
@@ -297,19 +305,19 @@ fn put_blanks(table: &mut [u16], at: usize, waiting: usize, indent: usize, numbe
 }
 
 // A line that is read normally.
-fn normal_line(text: &[u8], raw: Raw, table: &mut [u16], count: usize) -> Step
-    requires { ⌜ (length (now table) ≡ 8192) × IsRaw (now text) raw × (count ≤ 2048) ⌝ }
+fn normal_line(text: &[u8], raw: Raw, table: &mut [u16], count: usize) -> LineTaken
+    requires { ⌜ (length (now table) ≡ tableSize) × IsRaw (now text) raw × (count ≤ mostLines) ⌝ }
     ensures { λ r. ⌜ Takes (now (text .entry)) (now (table .entry)) (now (table .exit)) count (raw .number)
         (λ raws. normal raw (now (text .entry)) raws) r ⌝ }
 {
     let start = raw.start;
     let line = raw.number as u32;
     if tab_leads(text, start, raw.to) {
-        return Step::Refused(Refusal::TabInIndentation { line });
+        return LineTaken::Refused(Refusal::TabInIndentation { line });
     }
     let end = trim_end(text, start, comment_at(text, start, raw.to));
     if end == start {
-        return Step::Next {
+        return LineTaken::Next {
             count,
             literal: Literal::Closed,
             waiting: 0,
@@ -317,14 +325,14 @@ fn normal_line(text: &[u8], raw: Raw, table: &mut [u16], count: usize) -> Step
     }
     let significant = &text[start..end];
     if is_marker(significant) {
-        return Step::Refused(Refusal::DocumentMarker { line });
+        return LineTaken::Refused(Refusal::DocumentMarker { line });
     }
-    if count == 2048 {
-        return Step::Refused(Refusal::TooManyLines { line });
+    if count == MOST_LINES {
+        return LineTaken::Refused(Refusal::TooManyLines { line });
     }
     let indent = start - raw.from;
     put_entry(table, count, indent, start, end, raw.number);
-    Step::Next {
+    LineTaken::Next {
         count: count + 1,
         literal: literal_after(significant, indent),
         waiting: 0,
@@ -339,21 +347,21 @@ fn body_line(
     waiting: usize,
     table: &mut [u16],
     count: usize,
-) -> Step
-    requires { ⌜ (length (now table) ≡ 8192) × IsRaw (now text) raw × (count ≤ 2048) × (waiting < raw .number) ⌝ }
+) -> LineTaken
+    requires { ⌜ (length (now table) ≡ tableSize) × IsRaw (now text) raw × (count ≤ mostLines) × (waiting < raw .number) ⌝ }
     ensures { λ r. ⌜ Takes (now (text .entry)) (now (table .entry)) (now (table .exit)) count (raw .number)
         (λ raws. body raw under waiting (now (text .entry)) raws) r ⌝ }
 {
     let start = raw.start;
     let number = raw.number;
     if tab_leads(text, start, raw.to) {
-        return Step::Refused(Refusal::TabInIndentation {
+        return LineTaken::Refused(Refusal::TabInIndentation {
             line: number as u32,
         });
     }
-    let room = 2048 - count;
+    let room = MOST_LINES - count;
     if room <= waiting {
-        return Step::Refused(Refusal::TooManyLines {
+        return LineTaken::Refused(Refusal::TooManyLines {
             line: (number - (waiting - room)) as u32,
         });
     }
@@ -367,7 +375,7 @@ fn body_line(
         trim_end(text, start, raw.to),
         number,
     );
-    Step::Next {
+    LineTaken::Next {
         count: count + waiting + 1,
         literal: Literal::Under(under),
         waiting: 0,
@@ -381,8 +389,8 @@ fn read_line(
     waiting: usize,
     table: &mut [u16],
     count: usize,
-) -> Step
-    requires { ⌜ (length (now table) ≡ 8192) × IsRaw (now text) raw × (count ≤ 2048) × (waiting < raw .number) ⌝ }
+) -> LineTaken
+    requires { ⌜ (length (now table) ≡ tableSize) × IsRaw (now text) raw × (count ≤ mostLines) × (waiting < raw .number) ⌝ }
     ensures { λ r. ⌜ Takes (now (text .entry)) (now (table .entry)) (now (table .exit)) count (raw .number)
         (λ raws. scan literal waiting (raw .number) (rawText (now (text .entry)) raw ∷ raws)) r ⌝ }
 {
@@ -390,7 +398,7 @@ fn read_line(
         return normal_line(text, raw, table, count);
     };
     if trim_start(text, raw.start, raw.to) == raw.to {
-        return Step::Next {
+        return LineTaken::Next {
             count,
             literal: Literal::Under(under),
             waiting: waiting + 1,
@@ -417,8 +425,8 @@ fn raw_at(text: &[u8], at: usize, newline: usize, number: usize) -> Raw
 }
 
 fn fill(text: &[u8], table: &mut [u16]) -> LinesAnswer
-    requires { ⌜ (length (now text) ≤ 65535) × (length (now table) ≡ 8192) ⌝ }
-    ensures { λ r. ⌜ Agrees (now (text .entry)) (now (table .exit)) r ⌝ }
+    requires { ⌜ (length (now text) ≤ 65535) × (length (now table) ≡ tableSize) ⌝ }
+    ensures { λ r. ⌜ AgreesLines (now (text .entry)) (now (table .exit)) r ⌝ }
 {
     let mut at = 0;
     let mut number = 1;
@@ -429,7 +437,7 @@ fn fill(text: &[u8], table: &mut [u16]) -> LinesAnswer
         let newline = newline_at(text, at);
         let raw = raw_at(text, at, newline, number);
         match read_line(text, raw, literal, waiting, table, count) {
-            Step::Next {
+            LineTaken::Next {
                 count: c,
                 literal: l,
                 waiting: w,
@@ -438,7 +446,7 @@ fn fill(text: &[u8], table: &mut [u16]) -> LinesAnswer
                 literal = l;
                 waiting = w;
             }
-            Step::Refused(e) => return LinesAnswer::Refused(e),
+            LineTaken::Refused(e) => return LinesAnswer::Refused(e),
         }
         at = newline + 1;
         number += 1;
@@ -448,9 +456,9 @@ fn fill(text: &[u8], table: &mut [u16]) -> LinesAnswer
 
 // The significant lines of a text, as entries at the front of the table: each is its indentation, the start and the end of its
 // text, and its line's number.
-pub fn read_lines(text: &[u8], table: &mut [u16; 8192]) -> LinesAnswer
+pub fn read_lines(text: &[u8], table: &mut [u16; TABLE]) -> LinesAnswer
     requires { ⌜ length (now text) ≤ 65535 ⌝ }
-    ensures { λ r. ⌜ Agrees (now (text .entry)) (now (table .exit)) r ⌝ }
+    ensures { λ r. ⌜ AgreesLines (now (text .entry)) (now (table .exit)) r ⌝ }
 {
     fill(text, table)
 }

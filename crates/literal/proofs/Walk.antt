@@ -1,9 +1,8 @@
 -- What a walk over the lines of a literal knows on its way. Assumes nothing.
 use mathlib.Core.Path.{_≡_}
-use Prim.Native.Nat.{ℕ, _+_, _*_, _≤_, _<_}
+use Prim.Native.Nat.{ℕ, _+_}
 use mathlib.Core.List.{List}
 use lib.ListN.{length}
-use Rattle.refusal.specs.Base.{if_then_else_}
 use Rattle.lines.specs.Table.{Placed}
 use Rattle.literal.specs.Walk.{bodyFrom, restFrom}
 

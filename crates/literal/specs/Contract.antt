@@ -1,4 +1,5 @@
--- What the readers of lines promise. Assumes nothing.
+-- Section 3 of document 01, for contracts: what the readers of lines promise. Uses Base and Told of `refusal`; Tree and Encode of `item`;
+-- Lines and Table of `lines`; Literal of this crate. Assumes nothing.
 use mathlib.Core.Path.{_≡_}
 use Prim.Native.Nat.{ℕ, _+_, _≤_}
 use mathlib.Core.List.{List}

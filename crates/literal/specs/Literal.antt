@@ -1,4 +1,5 @@
--- Section 3 of document 01: literals (`parse_literal`), and what reading lines gives. Assumes nothing.
+-- Section 3 of document 01: literals (`parse_literal`), and what reading lines gives. Uses Base of `refusal`; Tree of `item`; Lines of
+-- `lines`; Read of `scalar`. Assumes nothing.
 use Prim.Native.Nat.{ℕ, _-_}
 use mathlib.Core.List.{List, [], _∷_, _++_}
 use mathlib.Core.Bool.{Bool, true, _&&_}
@@ -52,7 +53,3 @@ unfoldable pub literal : ℕ → Bool → ℕ → ℕ → List Line → Read Yam
 literal cap strip under sum ls =
     let (body, rest) = literalUnder under ls in
     leaf cap sum (str (if strip then dropNewlines body else body)) rest
-
-unfoldable pub Literal-open : Unit {0}
-unfolding leaf literalLine literalLines literalUnder allNewlines dropNewlines literal
-Literal-open = tt

@@ -1,4 +1,5 @@
--- What the walks over the lines of a literal ask and promise. Assumes nothing.
+-- Section 3 of document 01, for the contracts inside the crate: what the walks over the lines of a literal ask and promise. Uses Base of
+-- `refusal`; Tree of `item`; Lines and Table of `lines`; Literal of this crate. Assumes nothing.
 use mathlib.Core.Path.{_≡_}
 use Prim.Native.Nat.{ℕ, _+_, _*_, _≤_, _<_}
 use mathlib.Core.List.{List}

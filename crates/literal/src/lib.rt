@@ -2,12 +2,13 @@
 // `count` count.
 ghost use mathlib.Core.Path.{_≡_};
 ghost use mathlib.Core.List.{[], _∷_, _++_};
-ghost use Prim.Native.Nat.{_+_, _*_, _-_, _≤_, _<_};
+ghost use Prim.Native.Nat.{_+_, _*_, _-_, _≤_, _<_, _^_};
 ghost use lib.ListN.{length, take, replicate, getD};
 ghost use lib.Seq.{sets};
 ghost use Rattle.refusal.specs.Base.{if_then_else_, ch};
 ghost use Rattle.item.specs.Tree.{str};
-ghost use Rattle.lines.specs.Table.{Placed};
+ghost use Rattle.lines.specs.Lines.{mostLines};
+ghost use Rattle.lines.specs.Table.{tableSize, Placed};
 ghost use Rattle.lines.specs.Ready.{Ready};
 ghost use Rattle.literal.specs.Literal as definition;
 ghost use Rattle.literal.specs.Contract.{ReadsLines, ReadsPart};
@@ -31,7 +32,7 @@ pub struct Body {
 
 // The lines from `first` on that are indented by at least `indent`. They can give far more bytes than the text has.
 fn extent(table: &[u16], count: usize, first: usize, indent: usize) -> Body
-    requires { ⌜ (length (now table) ≡ 8192) × (count ≤ 2048) × (first ≤ count) × Ordered (now table) count ⌝ }
+    requires { ⌜ (length (now table) ≡ tableSize) × (count ≤ mostLines) × (first ≤ count) × Ordered (now table) count ⌝ }
     ensures { λ r. ⌜ Extent (now (table .entry)) count first indent r ⌝ }
 {
     let mut i = first;
@@ -83,8 +84,8 @@ fn put_lines(
     at: usize,
     to: usize,
 )
-    requires { ⌜ (length (now table) ≡ 8192) × (count ≤ 2048) × (first ≤ count) × Placed (now text) (now table) count
-        × (to ≤ length (now out)) × (length (now out) ≤ 1048576) × (to ≤ at + length (bodyFrom (now text) (now table) count indent first))
+    requires { ⌜ (length (now table) ≡ tableSize) × (count ≤ mostLines) × (first ≤ count) × Placed (now text) (now table) count
+        × (to ≤ length (now out)) × (length (now out) ≤ 2 ^ 20) × (to ≤ at + length (bodyFrom (now text) (now table) count indent first))
         × (at + length (bodyFrom (now text) (now table) count indent first) ≤ to + 1) ⌝ }
     ensures { λ _. ⌜ now (out .exit) ≡ sets (now (out .entry)) at
         (take (to - at) (bodyFrom (now (text .entry)) (now (table .entry)) count indent first)) ⌝ }
@@ -127,7 +128,7 @@ fn put_literal(
     at: usize,
 ) -> BlockRead
     requires { ⌜ Ready (now text) (now table) count × (i < count) × (indent ≡ getD (now table) (4 * i) 0) × (at ≤ length (now out))
-        × (length (now out) ≤ 1048576) ⌝ }
+        × (length (now out) ≤ 2 ^ 20) ⌝ }
     ensures { λ r. ⌜ ReadsLines (λ work ls. whole work strip at (definition.literalLines indent ls)) (now (text .entry))
         (now (table .entry)) count i (now (out .entry)) (now (out .exit)) at r ⌝ }
 {
@@ -146,7 +147,7 @@ fn put_literal(
 
 // A literal of no lines, where `i` is the first line that is left.
 fn put_empty(out: &mut [u8], at: usize, i: usize) -> BlockRead
-    requires { ⌜ (at ≤ length (now out)) × (length (now out) ≤ 1048576) ⌝ }
+    requires { ⌜ (at ≤ length (now out)) × (length (now out) ≤ 2 ^ 20) ⌝ }
     ensures { λ r. ⌜ ReadsPart (λ work ls. definition.leaf work at (str []) ls) i (now (out .entry)) (now (out .exit)) at r ⌝ }
 {
     if out.len() - at < 6 {
@@ -170,7 +171,7 @@ pub fn literal(
     out: &mut [u8],
     at: usize,
 ) -> BlockRead
-    requires { ⌜ Ready (now text) (now table) count × (i ≤ count) × (at ≤ length (now out)) × (length (now out) ≤ 1048576) ⌝ }
+    requires { ⌜ Ready (now text) (now table) count × (i ≤ count) × (at ≤ length (now out)) × (length (now out) ≤ 2 ^ 20) ⌝ }
     ensures { λ r. ⌜ ReadsLines (λ work ls. definition.literal work strip under at ls) (now (text .entry)) (now (table .entry)) count i
         (now (out .entry)) (now (out .exit)) at r ⌝ }
 {

@@ -1,4 +1,5 @@
--- What document 01, section 5, calls a meaning: the values of a scenario without lines, in kind 16's eight fields. Assumes nothing.
+-- Section 5 of document 01: what it calls a meaning, the values of a scenario without lines, in kind 16's eight fields. Uses Base of
+-- `refusal`; Tree of `item`. Assumes nothing.
 use Prim.Native.Nat.{ℕ}
 use mathlib.Core.List.{List, [], _∷_}
 use mathlib.Core.Bool.{Bool}

@@ -1,4 +1,5 @@
--- Section 4 of document 01: the meaning of a tree (`Scenario::parse`, `defaults_of`, `steps_of`), or its refusal. Assumes nothing.
+-- Section 4 of document 01: the meaning of a tree (`Scenario::parse`, `defaults_of`, `steps_of`), or its refusal. Uses Base of `refusal`;
+-- Tree of `item`; Scalars of `scalar`; StepLines of `step_lines`; Meaning of this crate. Assumes nothing.
 use Prim.Native.Nat.{ℕ, suc}
 use mathlib.Core.List.{List, [], _∷_}
 use mathlib.Core.Bool.{Bool, false, not}
@@ -219,7 +220,3 @@ meaningOf lines y = do
   t ← topOf y
   steps ← stepsFrom 1 lines (t .steps)
   good (withSteps t steps)
-
-unfoldable pub Meanings-open : Unit {0}
-unfolding topKeys schema document knownKeys scalarAt orEmpty checkSchema sequenceOr consText textsOf scalarDefault defaultsFrom noDefaults defaultsOf topOf expectOf commands commandOf expectAllowed isTrue stepOf stepAt stepsFrom withSteps meaningOf
-Meanings-open = tt

@@ -1,4 +1,5 @@
--- The record of a meaning: its one kind 16 item, nothing before or behind. Assumes nothing.
+-- Section 5 of document 01, kinds 16 to 19: the record of a meaning, its one kind 16 item, nothing before or behind. Uses Tree and Encode
+-- of `item`; Meaning of this crate. Assumes nothing.
 use Prim.Native.Nat.{ℕ}
 use mathlib.Core.List.{List, [], _∷_, _++_, map}
 use mathlib.Core.Option.{Option, none, some}
@@ -54,7 +55,3 @@ fields m =
 
 unfoldable pub recordOf : Meaning → List ℕ
 recordOf m = item 16 (joined (fields m))
-
-unfoldable pub Record-open : Unit {0}
-unfolding joined optional expected textItem stepParts stepItem defaultsParts defaultsItem tagsItem stepsItem fields recordOf
-Record-open = tt

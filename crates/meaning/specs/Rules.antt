@@ -1,20 +1,17 @@
--- The rules of a meaning (document 01, section 5), as facts. Assumes nothing.
+-- Section 5 of document 01: the rules of a meaning, as facts. Uses Base of `refusal`; Utf8 of `utf8`; Tree of `item`; Sound, Meaning and
+-- Record of this crate. Assumes nothing.
 use mathlib.Core.Path.{_≡_}
 use Prim.Native.Nat.{ℕ, _≤_}
 use mathlib.Core.List.{List, [], _∷_}
 use mathlib.Core.Bool.{true, false}
 use mathlib.Core.Option.{none}
 use lib.ListN.{length}
-use Rattle.refusal.specs.Base.{oneOf}
+use Rattle.refusal.specs.Base.{oneOf, limit}
 use Rattle.utf8.specs.Utf8.{Utf8}
 use Rattle.item.specs.Tree.{seq, levels}
 use Rattle.meaning.specs.Sound.{sound}
 use Rattle.meaning.specs.Meaning.{Step, Meaning, stepFields, builtInSteps}
 use Rattle.meaning.specs.Record.{optional, expected, recordOf}
-
--- a record has at most so many bytes
-abbrev pub limit : ℕ
-limit = 1048576
 
 -- every element has a property
 abbrev pub Each : {A : Type 0} → (A → Type 0) → List A → Type 0

@@ -1,4 +1,5 @@
--- What document 01, section 5, asks of every tree in a record, apart from its levels. Assumes nothing.
+-- Section 5 of document 01: what it asks of every tree in a record, apart from its levels. Uses Utf8 of `utf8`; Tree of `item`. Assumes
+-- nothing.
 use Prim.Native.Nat.{_^_}
 use mathlib.Core.Bool.{Bool, true, _&&_, not}
 use lib.Dec.{ltb}
@@ -18,7 +19,3 @@ sound end = true
 sound (y ▸ ys) = sound y && sound ys
 sound done = true
 sound (pair k v es) = isUtf8 k && (not (hasKey k es) && (sound v && sound es))
-
-unfoldable pub Sound-open : Unit {0}
-unfolding sound
-Sound-open = tt

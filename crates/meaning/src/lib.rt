@@ -1,72 +1,70 @@
 // The names that document 01 keeps for the keys of a scenario.
 ghost use mathlib.Core.Path.{_≡_};
+ghost use mathlib.Core.List.{[], _∷_};
 ghost use Rattle.refusal.specs.Base.{oneOf};
 ghost use Rattle.meaning.specs.Meaning.{stepFields, builtInSteps};
 ghost use Rattle.meaning.specs.Meanings.{topKeys};
 use item::same_bytes;
 
+fn one_of_three(key: &[u8], a: &[u8], b: &[u8], c: &[u8]) -> bool
+    ensures { λ r. ⌜ r ≡ oneOf (now (key .entry)) (now (a .entry) ∷ now (b .entry) ∷ now (c .entry) ∷ []) ⌝ }
+{
+    if same_bytes(key, a) {
+        return true;
+    }
+    if same_bytes(key, b) {
+        return true;
+    }
+    same_bytes(key, c)
+}
+
+fn one_of_five(key: &[u8], a: &[u8], b: &[u8], c: &[u8], d: &[u8], e: &[u8]) -> bool
+    ensures { λ r. ⌜ r ≡ oneOf (now (key .entry))
+        (now (a .entry) ∷ now (b .entry) ∷ now (c .entry) ∷ now (d .entry) ∷ now (e .entry) ∷ []) ⌝ }
+{
+    if one_of_three(key, a, b, c) {
+        return true;
+    }
+    if same_bytes(key, d) {
+        return true;
+    }
+    same_bytes(key, e)
+}
+
 pub fn is_top_key(key: &[u8]) -> bool
     ensures { λ r. ⌜ r ≡ oneOf (now (key .entry)) topKeys ⌝ }
 {
-    if same_bytes(key, b"schema") {
+    if one_of_three(key, b"schema", b"name", b"description") {
         return true;
     }
-    if same_bytes(key, b"name") {
+    if one_of_three(key, b"image", b"tags", b"setup") {
         return true;
     }
-    if same_bytes(key, b"description") {
-        return true;
-    }
-    if same_bytes(key, b"image") {
-        return true;
-    }
-    if same_bytes(key, b"tags") {
-        return true;
-    }
-    if same_bytes(key, b"setup") {
-        return true;
-    }
-    if same_bytes(key, b"defaults") {
-        return true;
-    }
-    if same_bytes(key, b"fail_on") {
-        return true;
-    }
-    same_bytes(key, b"steps")
+    one_of_three(key, b"defaults", b"fail_on", b"steps")
 }
 
 pub fn is_step_field(key: &[u8]) -> bool
     ensures { λ r. ⌜ r ≡ oneOf (now (key .entry)) stepFields ⌝ }
 {
-    if same_bytes(key, b"name") {
-        return true;
-    }
-    if same_bytes(key, b"id") {
-        return true;
-    }
-    if same_bytes(key, b"timeout") {
-        return true;
-    }
-    if same_bytes(key, b"continue_on_error") {
-        return true;
-    }
-    same_bytes(key, b"expect")
+    one_of_five(
+        key,
+        b"name",
+        b"id",
+        b"timeout",
+        b"continue_on_error",
+        b"expect",
+    )
 }
 
 pub fn is_built_in(key: &[u8]) -> bool
     ensures { λ r. ⌜ r ≡ oneOf (now (key .entry)) builtInSteps ⌝ }
 {
-    if same_bytes(key, b"repeat") {
-        return true;
-    }
-    if same_bytes(key, b"set") {
-        return true;
-    }
-    if same_bytes(key, b"delay") {
-        return true;
-    }
-    if same_bytes(key, b"expect_not") {
-        return true;
-    }
-    same_bytes(key, b"ui.expect")
+    one_of_five(
+        key,
+        b"repeat",
+        b"set",
+        b"delay",
+        b"expect_not",
+        b"ui.expect",
+    )
 }

@@ -26,10 +26,10 @@ use Rattle.entries.proofs.Standing.{stands-part, item-content}
 
 -- ---- lengths
 
-pub near : {old new : List ℕ} {at : ℕ} (b : List ℕ) {end : ℕ} → Stored old new at b end → length b ≤ 2097152 → Near old new at end
+pub near : {old new : List ℕ} {at : ℕ} (b : List ℕ) {end : ℕ} → Stored old new at b end → length b ≤ 2 ^ 21 → Near old new at end
 near b st h = record { low = omega (arith, st .ends); high = omega (arith, st .ends); kept = st .kept }
 
-pub bool-short : (b : Bool) → length (item 3 (boolText b)) ≤ 2097152
+pub bool-short : (b : Bool) → length (item 3 (boolText b)) ≤ 2 ^ 21
 unfolding boolText bytes
 bool-short true = omega (arith, item-length 3 (boolText true))
 bool-short false = omega (arith, item-length 3 (boolText false))
@@ -39,16 +39,16 @@ unfolding intText
 int-long (pos n) = omega (arith, decimal-twenty n)
 int-long (negsuc n) = omega (arith, decimal-twenty (suc n))
 
-pub int-short : (z : ℤ) → length (item 3 (intText z)) ≤ 2097152
+pub int-short : (z : ℤ) → length (item 3 (intText z)) ≤ 2 ^ 21
 int-short z = omega (arith, item-length 3 (intText z), int-long z)
 
 -- ---- integers
 
-pub positive-is : (n : ℕ) → n < 9223372036854775808 → signed false n ≡ untwos n
+pub positive-is : (n : ℕ) → n < 2 ^ 63 → signed false n ≡ untwos n
 unfolding signed untwos if_then_else_
 positive-is n h = rw (lt-ltb n (2 ^ 63) (omega arith))
 
-pub negative-is : (n : ℕ) → 9223372036854775808 ≤ n → signed true (18446744073709551615 - n + 1) ≡ untwos n
+pub negative-is : (n : ℕ) → 2 ^ 63 ≤ n → signed true (18446744073709551615 - n + 1) ≡ untwos n
 unfolding signed untwos if_then_else_
 negative-is n h = rw (le-ltb n (2 ^ 63) (omega arith)) (suc-form (18446744073709551615 - n + 1) (18446744073709551615 - n) (omega arith))
   where
@@ -142,17 +142,17 @@ no-scalar : (old new : List ℕ) (at : ℕ) (t : Option (List ℕ)) → RendersA
 no-scalar old new at none r = refl
 no-scalar old new at (some u) r = absurd r
 
-pub part-short : (s : List ℕ) (p to : ℕ) → to ≤ length s → length s ≤ 1048576 → length (take (to - p) (drop p s)) ≤ 1048576
+pub part-short : (s : List ℕ) (p to : ℕ) → to ≤ length s → length s ≤ 2 ^ 20 → length (take (to - p) (drop p s)) ≤ 2 ^ 20
 part-short s p to h w = omega (arith, length-take-le (to - p) (drop p s) (simp length-drop (omega arith)))
 
-pub part-near : {old new : List ℕ} {at end : ℕ} (s : List ℕ) (p to : ℕ) → Stored old new at (take (to - p) (drop p s)) end → to ≤ length s → length s ≤ 1048576 → Near old new at end
+pub part-near : {old new : List ℕ} {at end : ℕ} (s : List ℕ) (p to : ℕ) → Stored old new at (take (to - p) (drop p s)) end → to ≤ length s → length s ≤ 2 ^ 20 → Near old new at end
 part-near s p to w h l = near (take (to - p) (drop p s)) w (omega (arith, part-short s p to h l))
 
-pub null-short : length (encode null) ≤ 2097152
+pub null-short : length (encode null) ≤ 2 ^ 21
 unfolding encode
 null-short = omega (arith, item-length 0 [])
 
-pub empty-short : length (item 3 []) ≤ 2097152
+pub empty-short : length (item 3 []) ≤ 2 ^ 21
 empty-short = omega (arith, item-length 3 [])
 
 text-is : {s : List ℕ} (o : Option Yaml) (p : ℕ) (f : FoundAt s o p) → maybe o none keyText ≡ keyText (f .value)
@@ -212,6 +212,8 @@ module _ {old new : List ℕ} {at end : ℕ} where
   found-no-text {mid = mid} o p f r e n a w =
       no-text-stored (maybe o none keyText) (found-none old mid at o p f (subst (λ (x : Rendered). RendersAs (keyText (f .value)) old mid at x) e a)) (unwritten r e n w)
 
-  pub found-no-optional : {s mid : List ℕ} (o : Option Yaml) (p : ℕ) (f : FoundAt s o p) (r : Rendered) → r ≡ NoScalar → RendersNear old mid at r → RendersAs (keyText (f .value)) old mid at r → Stored mid new at (encode null) end → Stored old new at (maybe (maybe o none keyText) (encode null) (λ u. item 3 u)) end
+  pub found-no-optional : {s mid : List ℕ} (o : Option Yaml) (p : ℕ) (f : FoundAt s o p) (r : Rendered) → r ≡ NoScalar → RendersNear old mid at r
+      → RendersAs (keyText (f .value)) old mid at r → Stored mid new at (encode null) end
+      → Stored old new at (maybe (maybe o none keyText) (encode null) (λ u. item 3 u)) end
   found-no-optional {mid = mid} o p f r e n a w =
       no-optional-stored (maybe o none keyText) (found-none old mid at o p f (subst (λ (x : Rendered). RendersAs (keyText (f .value)) old mid at x) e a)) (unwritten r e n w)

@@ -1,6 +1,7 @@
--- What is written of a tree: the words of the contracts. Assumes nothing.
+-- Section 4 of document 01, for contracts: what is written of a tree. Uses Base and Told of `refusal`; Tree and Encode of `item`; Entries
+-- of `entries`. Assumes nothing.
 use mathlib.Core.Path.{_≡_}
-use Prim.Native.Nat.{ℕ, _+_, _≤_}
+use Prim.Native.Nat.{ℕ, _+_, _≤_, _^_}
 use mathlib.Core.List.{List}
 use mathlib.Core.Option.{Option, none, some}
 use lib.ListN.{length}
@@ -25,23 +26,23 @@ pub record Stored (old new : List ℕ) (at : ℕ) (b : List ℕ) (end : ℕ) : T
 -- where a part ends, whatever it is of
 pub record Near (old new : List ℕ) (at end : ℕ) : Type 0 where
   pub low : at ≤ end
-  pub high : end ≤ at + 2097152
+  pub high : end ≤ at + 2 ^ 21
   pub kept : length new ≡ length old
 
 -- what a key's value comes to, where it was found
-pub record Reads {A : Type 0} (s : List ℕ) (of : Option Yaml → A) (place : Found) (a : A) : Type 0 where
+pub record ReadsFound {A : Type 0} (s : List ℕ) (of : Option Yaml → A) (place : Found) (a : A) : Type 0 where
   pub value : Option Yaml
   pub found : Finds s value place
   pub is : a ≡ of value
 
 -- an answer, and what is written of it
-pub record Wrote {A : Type 0} (answer : Answer A) (write : A → List ℕ) (old new : List ℕ) (at end : ℕ) : Type 0 where
+pub record WrotePart {A : Type 0} (answer : Answer A) (write : A → List ℕ) (old new : List ℕ) (at end : ℕ) : Type 0 where
   pub read : A
   pub is : answer ≡ good read
   pub stored : Stored old new at (write read) end
 
 abbrev pub AgreesPart : {A : Type 0} → Answer A → (A → List ℕ) → List ℕ → List ℕ → ℕ → Part → Type 0
-AgreesPart answer write old new at (Done end) = Wrote answer write old new at end
+AgreesPart answer write old new at (Done end) = WrotePart answer write old new at end
 AgreesPart answer write old new at (Refused e) = answer ≡ refusal e
 
 abbrev pub PartNear : List ℕ → List ℕ → ℕ → ℕ → Part → Type 0

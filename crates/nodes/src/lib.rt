@@ -1,10 +1,11 @@
 // What is written of a tree where it stands in its bytes: scalars as key text, values as they are. It is stored as far as it fits and
-// summed beyond that, so that one walk serves for both.
+// summed beyond that, so that one walk serves for both. At most 2 ^ 20 bytes of a buffer count, so a part takes at most 2 ^ 21; a place
+// counts on beyond the buffer's end, and the bounds of 2 ^ 50 and more keep it below 2 ^ 64.
 ghost use mathlib.Core.Path.{_≡_};
 ghost use mathlib.Core.List.{[]};
 ghost use mathlib.Core.Bool.{true, false};
 ghost use mathlib.Core.Option.{Option, none};
-ghost use Prim.Native.Nat.{_+_, _-_, _≤_, _<_};
+ghost use Prim.Native.Nat.{_+_, _-_, _≤_, _<_, _^_};
 ghost use lib.ListN.{length, take, drop, getD};
 ghost use lib.Seq.{sets};
 ghost use lib.Dec.{ltb};
@@ -46,7 +47,7 @@ pub enum Part {
 
 // Copies bytes if they fit, and tells where they end.
 pub fn put(out: &mut [u8], at: usize, bytes: &[u8]) -> usize
-    requires { ⌜ (length (now bytes) ≤ 1048576) × (at ≤ 4503599627370496) ⌝ }
+    requires { ⌜ (length (now bytes) ≤ 2 ^ 20) × (at ≤ 2 ^ 52) ⌝ }
     ensures { λ r. ⌜ Stored (now (out .entry)) (now (out .exit)) at (now (bytes .entry)) r ⌝ }
 {
     let end = at + bytes.len();
@@ -58,7 +59,7 @@ pub fn put(out: &mut [u8], at: usize, bytes: &[u8]) -> usize
 
 // The header of an item that ends at `end`, if that fits.
 pub fn close(out: &mut [u8], at: usize, kind: usize, end: usize)
-    requires { ⌜ (at + 6 ≤ end) × (kind < 65536) × (length (now out) ≤ 1048576) ⌝ }
+    requires { ⌜ (at + 6 ≤ end) × (kind < 2 ^ 16) × (length (now out) ≤ 2 ^ 20) ⌝ }
     ensures { λ _. ⌜ ((end ≤ length (now (out .entry)) → now (out .exit) ≡ sets (now (out .entry)) at (head kind (end - at - 6)))
         × (length (now (out .exit)) ≡ length (now (out .entry)))) ⌝ }
 {
@@ -69,7 +70,7 @@ pub fn close(out: &mut [u8], at: usize, kind: usize, end: usize)
 
 // A string's item.
 pub fn put_text(out: &mut [u8], at: usize, text: &[u8]) -> usize
-    requires { ⌜ (length (now text) ≤ 1048576) × (at ≤ 2251799813685248) × (length (now out) ≤ 1048576) ⌝ }
+    requires { ⌜ (length (now text) ≤ 2 ^ 20) × (at ≤ 2 ^ 51) × (length (now out) ≤ 2 ^ 20) ⌝ }
     ensures { λ r. ⌜ Stored (now (out .entry)) (now (out .exit)) at (items.item 3 (now (text .entry))) r ⌝ }
 {
     let end = put(out, at + 6, text);
@@ -79,7 +80,7 @@ pub fn put_text(out: &mut [u8], at: usize, text: &[u8]) -> usize
 
 // A null item.
 pub fn put_null(out: &mut [u8], at: usize) -> usize
-    requires { ⌜ (at ≤ 2251799813685248) × (length (now out) ≤ 1048576) ⌝ }
+    requires { ⌜ (at ≤ 2 ^ 51) × (length (now out) ≤ 2 ^ 20) ⌝ }
     ensures { λ r. ⌜ Stored (now (out .entry)) (now (out .exit)) at (encode trees.null) r ⌝ }
 {
     let end = at + 6;
@@ -135,7 +136,7 @@ fn integer_at(s: &[u8], at: usize) -> Integer
 }
 
 fn put_integer(out: &mut [u8], at: usize, negative: bool, magnitude: u64) -> usize
-    requires { ⌜ (at ≤ 2251799813685248) × (length (now out) ≤ 1048576) ⌝ }
+    requires { ⌜ (at ≤ 2 ^ 51) × (length (now out) ≤ 2 ^ 20) ⌝ }
     ensures { λ r. ⌜ Stored (now (out .entry)) (now (out .exit)) at (items.item 3 (intText (signed negative magnitude))) r ⌝ }
 {
     let len = int_len(negative, magnitude);
@@ -148,7 +149,7 @@ fn put_integer(out: &mut [u8], at: usize, negative: bool, magnitude: u64) -> usi
 }
 
 fn put_bool(s: &[u8], from: usize, out: &mut [u8], at: usize) -> usize
-    requires { ⌜ (from < length (now s)) × (at ≤ 2251799813685248) × (length (now out) ≤ 1048576) ⌝ }
+    requires { ⌜ (from < length (now s)) × (at ≤ 2 ^ 51) × (length (now out) ≤ 2 ^ 20) ⌝ }
     ensures { λ r. ⌜ Stored (now (out .entry)) (now (out .exit)) at (items.item 3 (boolText (ltb 0 (getD (now (s .entry)) from 0)))) r ⌝ }
 {
     if s[from] == 0 {
@@ -159,7 +160,7 @@ fn put_bool(s: &[u8], from: usize, out: &mut [u8], at: usize) -> usize
 
 // The value at `p` as key text.
 pub fn render(s: &[u8], p: usize, out: &mut [u8], at: usize) -> Rendered
-    requires { ⌜ (length (now s) ≤ 1048576) × (at ≤ 2251799813685248) × (length (now out) ≤ 1048576) ⌝ }
+    requires { ⌜ (length (now s) ≤ 2 ^ 20) × (at ≤ 2 ^ 51) × (length (now out) ≤ 2 ^ 20) ⌝ }
     ensures { λ r. ⌜ RendersNear (now (out .entry)) (now (out .exit)) at r ⌝ }
     ensures text { λ r. ⌜ ((y : Yaml) → Ranged y → Stands (now (s .entry)) p (encode y)
         → RendersAs (keyText y) (now (out .entry)) (now (out .exit)) at r) ⌝ }
@@ -189,7 +190,7 @@ pub fn render(s: &[u8], p: usize, out: &mut [u8], at: usize) -> Rendered
 
 // The text of a value that was looked for, or an empty one where there is no scalar.
 pub fn put_found(s: &[u8], found: Found, out: &mut [u8], at: usize) -> usize
-    requires { ⌜ (length (now s) ≤ 1048576) × (at ≤ 2251799813685248) × (length (now out) ≤ 1048576) ⌝ }
+    requires { ⌜ (length (now s) ≤ 2 ^ 20) × (at ≤ 2 ^ 51) × (length (now out) ≤ 2 ^ 20) ⌝ }
     ensures { λ r. ⌜ Near (now (out .entry)) (now (out .exit)) at r ⌝ }
     ensures text { λ r. ⌜ ((o : Option Yaml) → Finds (now (s .entry)) o found
         → Stored (now (out .entry)) (now (out .exit)) at (items.item 3 (maybe (maybe o none keyText) [] (λ t. t))) r) ⌝ }
@@ -205,7 +206,7 @@ pub fn put_found(s: &[u8], found: Found, out: &mut [u8], at: usize) -> usize
 
 // The same, or null where there is no scalar.
 pub fn put_optional(s: &[u8], found: Found, out: &mut [u8], at: usize) -> usize
-    requires { ⌜ (length (now s) ≤ 1048576) × (at ≤ 2251799813685248) × (length (now out) ≤ 1048576) ⌝ }
+    requires { ⌜ (length (now s) ≤ 2 ^ 20) × (at ≤ 2 ^ 51) × (length (now out) ≤ 2 ^ 20) ⌝ }
     ensures { λ r. ⌜ Near (now (out .entry)) (now (out .exit)) at r ⌝ }
     ensures text { λ r. ⌜ ((o : Option Yaml) → Finds (now (s .entry)) o found
         → Stored (now (out .entry)) (now (out .exit)) at (maybe (maybe o none keyText) (encode trees.null) (λ t. items.item 3 t)) r) ⌝ }
@@ -221,7 +222,7 @@ pub fn put_optional(s: &[u8], found: Found, out: &mut [u8], at: usize) -> usize
 
 // The item of a value that was looked for, as it stands, or null.
 pub fn put_value(s: &[u8], found: Found, out: &mut [u8], at: usize) -> usize
-    requires { ⌜ (length (now s) ≤ 1048576) × (at ≤ 2251799813685248) × (length (now out) ≤ 1048576) ⌝ }
+    requires { ⌜ (length (now s) ≤ 2 ^ 20) × (at ≤ 2 ^ 51) × (length (now out) ≤ 2 ^ 20) ⌝ }
     ensures { λ r. ⌜ Near (now (out .entry)) (now (out .exit)) at r ⌝ }
     ensures value { λ r. ⌜ ((o : Option Yaml) → Finds (now (s .entry)) o found
         → Stored (now (out .entry)) (now (out .exit)) at (encode (maybe o trees.null (λ v. v))) r) ⌝ }

@@ -5,10 +5,9 @@ use native.Mathlib.Omega.{arith}
 use mathlib.Core.List.{List, map}
 use mathlib.Core.Option.{Option, none, some}
 use lib.ListN.{length, take, getD}
-use Rattle.refusal.specs.Base.{Answer, good, refused, _>>=_, maybe, given}
+use Rattle.refusal.specs.Base.{Answer, good, refused, _>>=_, maybe, given, limit}
 use Rattle.meaning.specs.Meaning.{Meaning}
 use Rattle.meaning.specs.Record.{joined, stepItem, fields}
-use Rattle.meaning.specs.Rules.{limit}
 use Rattle.record.specs.Read.{content, fieldsIn, meaningIn}
 use Rattle.record.specs.Jobs as job
 use Rattle.record.specs.Jobs.{Found, nothing, part, opened, checkRecord, partAt, stepsStart, answerOf}

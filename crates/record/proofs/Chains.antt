@@ -8,12 +8,11 @@ use mathlib.Core.Option.{Option, none, some}
 use lib.Dec.{eqb}
 use lib.ListN.{length, take, drop}
 use borrow.Author.Tests.{le-leb, lt-leb}
-use Rattle.refusal.specs.Base.{if_then_else_, maybe}
+use Rattle.refusal.specs.Base.{if_then_else_, maybe, limit}
 use Rattle.item.specs.Tree.{Items}
 use Rattle.item.specs.Decode.{_>>=_, nothing}
-use Rattle.value.specs.Walks.{Read}
+use Rattle.value.specs.Walks.{ReadAt}
 use Rattle.meaning.specs.Meaning.{Defaults, Step, Meaning}
-use Rattle.meaning.specs.Rules.{limit}
 use Rattle.record.specs.Read.{fieldOf, asText, asOptional, asFlag, asItems, asCommand, asExpect, content, inItem, all, stepIn, defaultsIn, restIn, fieldsIn, meaningIn}
 use Rattle.record.specs.Contract.{ItemAt, isSome, counted, areTexts, areDefaults, isStep, stepsIn, restSteps, meaningSteps}
 use Rattle.record.proofs.Views.{some-is, none-is}
@@ -77,12 +76,12 @@ module _ (s : List ℕ) where
   unfolding areDefaults isSome maybe defaultsIn _>>=_
   defaults₁ e = rw e
 
-  module _ {a : ℕ} (r₁ : Read (fieldOf asOptional 0) s 0 a) where
+  module _ {a : ℕ} (r₁ : ReadAt (fieldOf asOptional 0) s 0 a) where
     pub defaults₂ : fieldOf asOptional 0 (drop a s) ≡ none → false ≡ areDefaults s
     unfolding areDefaults isSome maybe defaultsIn _>>=_
     defaults₂ e = rw (r₁ .is, e)
 
-    pub defaults₃ : {b : ℕ} → Read (fieldOf asOptional 0) s a b → eqb b (length s) ≡ areDefaults s
+    pub defaults₃ : {b : ℕ} → ReadAt (fieldOf asOptional 0) s a b → eqb b (length s) ≡ areDefaults s
     unfolding areDefaults defaultsIn _>>=_
     defaults₃ {b} r₂ = sym (rw (r₁ .is, r₂ .is) (ended _ s b (r₂ .fits)))
 
@@ -93,12 +92,12 @@ module _ (s : List ℕ) where
   unfolding isStep isSome maybe stepIn _>>=_
   step₁ e = rw e
 
-  module _ {a : ℕ} (r₁ : Read (fieldOf asText 0) s 0 a) where
+  module _ {a : ℕ} (r₁ : ReadAt (fieldOf asText 0) s 0 a) where
     pub step₂ : fieldOf asText 0 (drop a s) ≡ none → false ≡ isStep s
     unfolding isStep isSome maybe stepIn _>>=_
     step₂ e = rw (r₁ .is, e)
 
-    module _ {b : ℕ} (r₂ : Read (fieldOf asText 0) s a b) where
+    module _ {b : ℕ} (r₂ : ReadAt (fieldOf asText 0) s a b) where
       pub step₃ : fieldOf asCommand 0 (drop b s) ≡ none → false ≡ isStep s
       unfolding isStep isSome maybe stepIn _>>=_
       step₃ e = rw (r₁ .is, r₂ .is, e)
@@ -108,22 +107,22 @@ module _ (s : List ℕ) where
         unfolding isStep isSome maybe stepIn _>>=_
         step₄ e = rw (r₁ .is, r₂ .is, r₃, e)
 
-        module _ {d : ℕ} (r₄ : Read (fieldOf some 29) s c d) where
+        module _ {d : ℕ} (r₄ : ReadAt (fieldOf some 29) s c d) where
           pub step₅ : fieldOf asOptional 0 (drop d s) ≡ none → false ≡ isStep s
           unfolding isStep isSome maybe stepIn _>>=_
           step₅ e = rw (r₁ .is, r₂ .is, r₃, r₄ .is, e)
 
-          module _ {e : ℕ} (r₅ : Read (fieldOf asOptional 0) s d e) where
+          module _ {e : ℕ} (r₅ : ReadAt (fieldOf asOptional 0) s d e) where
             pub step₆ : fieldOf asFlag 0 (drop e s) ≡ none → false ≡ isStep s
             unfolding isStep isSome maybe stepIn _>>=_
             step₆ h = rw (r₁ .is, r₂ .is, r₃, r₄ .is, r₅ .is, h)
 
-            module _ {f : ℕ} (r₆ : Read (fieldOf asFlag 0) s e f) where
+            module _ {f : ℕ} (r₆ : ReadAt (fieldOf asFlag 0) s e f) where
               pub step₇ : fieldOf (asExpect key) 29 (drop f s) ≡ none → false ≡ isStep s
               unfolding isStep isSome maybe stepIn _>>=_
               step₇ h = rw (r₁ .is, r₂ .is, r₃, r₄ .is, r₅ .is, r₆ .is, h)
 
-              pub step₈ : {g : ℕ} → Read (fieldOf (asExpect key) 29) s f g → eqb g (length s) ≡ isStep s
+              pub step₈ : {g : ℕ} → ReadAt (fieldOf (asExpect key) 29) s f g → eqb g (length s) ≡ isStep s
               unfolding isStep stepIn _>>=_
               step₈ {g} r₇ = sym (rw (r₁ .is, r₂ .is, r₃, r₄ .is, r₅ .is, r₆ .is, r₇ .is) (ended _ s g (r₇ .fits)))
 
@@ -151,7 +150,7 @@ module _ (s : List ℕ) (at : ℕ) where
       unfolding restSteps maybe restIn _>>=_
       rest₃ e = rw (timed .1, e)
 
-      module _ {b : ℕ} (r₂ : Read (fieldOf asItems 31) s a b) where
+      module _ {b : ℕ} (r₂ : ReadAt (fieldOf asItems 31) s a b) where
         pub rest₄ : content 18 (drop b s) ≡ none → none ≡ restSteps (drop at s)
         unfolding restSteps maybe restIn _>>=_
         rest₄ e = rw (timed .1, r₂ .is, no-item 18 (all (inItem 19 stepIn)) (drop b s) e)
@@ -186,12 +185,12 @@ module _ (s : List ℕ) where
   unfolding meaningSteps maybe fieldsIn _>>=_
   fields₁ e = rw e
 
-  module _ {a : ℕ} (r₁ : Read (fieldOf asText 0) s 0 a) where
+  module _ {a : ℕ} (r₁ : ReadAt (fieldOf asText 0) s 0 a) where
     pub fields₂ : fieldOf asText 0 (drop a s) ≡ none → none ≡ meaningSteps s
     unfolding meaningSteps maybe fieldsIn _>>=_
     fields₂ e = rw (r₁ .is, e)
 
-    module _ {b : ℕ} (r₂ : Read (fieldOf asText 0) s a b) where
+    module _ {b : ℕ} (r₂ : ReadAt (fieldOf asText 0) s a b) where
       pub fields₃ : content 4 (drop b s) ≡ none → none ≡ meaningSteps s
       unfolding meaningSteps maybe fieldsIn _>>=_
       fields₃ e = rw (r₁ .is, r₂ .is, no-item 4 (all (fieldOf asText 0)) (drop b s) e)
@@ -210,12 +209,12 @@ module _ (s : List ℕ) where
           unfolding meaningSteps maybe fieldsIn _>>=_
           fields₅ e = rw (r₁ .is, r₂ .is, tagged .1, e)
 
-          module _ {d : ℕ} (r₄ : Read (fieldOf asText 0) s c d) where
+          module _ {d : ℕ} (r₄ : ReadAt (fieldOf asText 0) s c d) where
             pub fields₆ : fieldOf some 31 (drop d s) ≡ none → none ≡ meaningSteps s
             unfolding meaningSteps maybe fieldsIn _>>=_
             fields₆ e = rw (r₁ .is, r₂ .is, tagged .1, r₄ .is, e)
 
-            pub fields₇ : {e : ℕ} → Read (fieldOf some 31) s d e → restSteps (drop e s) ≡ meaningSteps s
+            pub fields₇ : {e : ℕ} → ReadAt (fieldOf some 31) s d e → restSteps (drop e s) ≡ meaningSteps s
             unfolding meaningSteps maybe fieldsIn _>>=_ restSteps
             fields₇ {e} r₅ = sym (rw (r₁ .is, r₂ .is, tagged .1, r₄ .is, r₅ .is) (go (restIn (drop e s))))
               where

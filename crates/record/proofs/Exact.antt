@@ -7,7 +7,7 @@ use mathlib.Core.Option.{Option, none, some, Option·some-injective}
 use lib.Dec.{leb, eqb}
 use lib.ListN.{length}
 use borrow.Author.Tests.{eqb-true, leb-true}
-use Rattle.refusal.specs.Base.{oneOf}
+use Rattle.refusal.specs.Base.{oneOf, limit}
 use Rattle.refusal.proofs.Tools.{chosen}
 use Rattle.item.specs.Tree.{Yaml, Items, Entries, null, bool, int, str, seq, dict, levels}
 use Rattle.item.specs.Encode.{item, encode, Bytes}
@@ -19,7 +19,7 @@ use Rattle.value.proofs.Invariants.{taken}
 use Rattle.value.proofs.Levels.{decode-low}
 use Rattle.meaning.specs.Meaning.{Defaults, Step, Meaning, stepFields, builtInSteps}
 use Rattle.meaning.specs.Record.{joined, optional, expected, textItem, stepParts, stepItem, defaultsParts, defaultsItem, tagsItem, stepsItem, fields, recordOf}
-use Rattle.meaning.specs.Rules.{Each, limit, StepRules, Rules, IsRecord}
+use Rattle.meaning.specs.Rules.{Each, StepRules, Rules, IsRecord}
 use Rattle.utf8.specs.Utf8.{Utf8}
 use Rattle.record.specs.Read.{fieldOf, asText, asOptional, asFlag, asItems, asCommand, asExpect, content, inItem, many, all, stepIn, defaultsIn, restIn, fieldsIn, meaningIn}
 

@@ -6,18 +6,18 @@ use mathlib.Core.Bool.{false}
 use mathlib.Core.Option.{Option, none, some}
 use lib.ListN.{length}
 use lib.IntN.{pos}
-use Rattle.refusal.specs.Base.{good, refused, bytes, Base-open}
-use Rattle.utf8.specs.Utf8.{Utf8-open}
+use Rattle.refusal.specs.Base.{good, refused, bytes}
+use Rattle.refusal.proofs.Open.{Base-open}
+use Rattle.utf8.proofs.Open.{Utf8-open}
 use Rattle.item.specs.Tree.{Entries, null, int, end, done, pair}
-use Rattle.item.specs.Tree as item
-use Rattle.item.specs.Encode.{Encode-open}
-use Rattle.item.specs.Decode.{Decode-open}
-use Rattle.meaning.specs.Sound.{Sound-open}
-use Rattle.value.specs.Tree as value
+use Rattle.item.proofs.Open as item
+use Rattle.item.proofs.Open.{Encode-open, Decode-open}
+use Rattle.meaning.proofs.Open.{Sound-open, Record-open}
+use Rattle.value.proofs.Open as value
 use Rattle.meaning.specs.Meaning.{Meaning, stepFields, builtInSteps}
-use Rattle.meaning.specs.Record.{recordOf, Record-open}
-use Rattle.record.specs.Read.{Read-open}
-use Rattle.record.specs.Jobs.{part, checkRecord, field, step, Jobs-open}
+use Rattle.meaning.specs.Record.{recordOf}
+use Rattle.record.proofs.Open.{Read-open, Jobs-open}
+use Rattle.record.specs.Jobs.{part, checkRecord, field, step}
 
 -- one step with this command and the value 5, and perhaps expect
 unfoldable noon : List ℕ → Option Entries → Meaning

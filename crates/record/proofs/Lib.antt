@@ -8,3 +8,4 @@ pub mod Lookups
 pub mod Invariants
 pub mod Views
 pub mod Theorems
+pub mod Open

@@ -7,7 +7,7 @@ use mathlib.Core.Option.{Option, none, some}
 use lib.ListN.{length, take, drop, length-append, length-drop}
 use lib.Seq.{drop-at, drop-drop}
 use borrow.Author.Tests.{lt-ltb, le-ltb}
-use Rattle.refusal.specs.Base.{Answer, good, refused, _>>=_, _>>_, given, ensure}
+use Rattle.refusal.specs.Base.{Answer, good, refused, _>>=_, _>>_, given, ensure, limit}
 use Rattle.item.specs.Tree.{Yaml, str, seq}
 use Rattle.item.specs.Encode.{head, item, encode, kindOf, Bytes}
 use Rattle.item.proofs.Size.{head-length, item-length}
@@ -16,7 +16,7 @@ use Rattle.item.proofs.HeaderPlaces.{item-at}
 use Rattle.item.specs.declared.Header.the-variants.{Item}
 use Rattle.meaning.specs.Meaning.{Step, Meaning}
 use Rattle.meaning.specs.Record.{joined, textItem, stepItem, defaultsItem, tagsItem, stepsItem, fields, recordOf}
-use Rattle.meaning.specs.Rules.{Each, limit, IsRecord}
+use Rattle.meaning.specs.Rules.{Each, IsRecord}
 use Rattle.record.specs.Read.{meaningIn}
 use Rattle.record.specs.Jobs as job
 use Rattle.record.specs.Jobs.{part, opened, checkRecord, partAt, numbered, stepsStart}

@@ -8,7 +8,7 @@ use mathlib.Core.Bool.{Bool, true, false}
 use mathlib.Core.Option.{Option, none, some, Option·some-injective}
 use lib.ListN.{length, length-append}
 use borrow.Author.Tests.{eq-eqb, le-leb}
-use Rattle.refusal.specs.Base.{if_then_else_, oneOf}
+use Rattle.refusal.specs.Base.{if_then_else_, oneOf, limit}
 use Rattle.item.specs.Tree.{Yaml, Entries, bool, str, seq, levels}
 use Rattle.item.specs.Encode.{item, encode}
 use Rattle.item.proofs.Size.{item-length, encode-long}
@@ -18,7 +18,7 @@ use Rattle.meaning.specs.Sound.{sound}
 use Rattle.value.proofs.Levels.{tree-back}
 use Rattle.meaning.specs.Meaning.{Defaults, Step, Meaning, stepFields, builtInSteps}
 use Rattle.meaning.specs.Record.{joined, optional, expected, textItem, stepParts, stepItem, defaultsParts, defaultsItem, tagsItem, stepsItem, fields, recordOf}
-use Rattle.meaning.specs.Rules.{Each, limit, StepRules, Rules, IsRecord}
+use Rattle.meaning.specs.Rules.{Each, StepRules, Rules, IsRecord}
 use Rattle.utf8.specs.Utf8.{Utf8}
 use Rattle.record.specs.Read.{fieldOf, asText, asOptional, asFlag, asItems, asCommand, asExpect, content, inItem, many, all, stepIn, defaultsIn, restIn, fieldsIn, meaningIn}
 

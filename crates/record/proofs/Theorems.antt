@@ -7,12 +7,13 @@ use mathlib.Core.List.{List, [], _∷_, _++_, append-assoc, map}
 use mathlib.Core.Option.{Option, none, some}
 use lib.ListN.{length, take, drop, getD, length-append, length-drop, take-append-drop, drop-of-length-le}
 use lib.Seq.{take-at, take-suc, drop-cons}
-use Rattle.refusal.specs.Base.{Answer, good, refused, _>>=_, given}
+use Rattle.refusal.specs.Base.{Answer, good, refused, _>>=_, given, limit}
 use Rattle.item.specs.Encode.{item, Bytes}
 use Rattle.item.proofs.Size.{item-length}
 use Rattle.meaning.specs.Meaning.{Meaning}
 use Rattle.meaning.specs.Record.{joined, stepItem, stepsItem, fields, recordOf}
-use Rattle.meaning.specs.Rules.{limit, IsRecord}
+use Rattle.meaning.specs.Rules.{IsRecord}
+use Rattle.meaning.proofs.Joined.{joined-append}
 use Rattle.record.specs.Read.{fieldsIn, meaningIn}
 use Rattle.record.specs.Jobs.{Found, opened, checkRecord, partAt, stepsStart, field, step, partOf}
 use Rattle.record.proofs.Exact.{meaning-exact}
@@ -32,11 +33,6 @@ check-decides b h = record {
     go : (o : Option Meaning) → meaningIn b ≡ o → ((m : Meaning) → IsRecord b m → ⊥) → (given o 40 0 0 >>= λ m. good (length (m .steps))) ≡ refused 40 0 0
     go none p other = refl
     go (some m) p other = absurd (other m (meaning-exact b m h p))
-
-joined-append : (a b : List (List ℕ)) → joined (a ++ b) ≡ joined a ++ joined b
-unfolding joined
-joined-append [] b = refl
-joined-append (p ∷ a) b = ap (λ (s : List ℕ). p ++ s) (joined-append a b) ∙ sym (append-assoc p (joined a) (joined b))
 
 -- of parts one behind another, the bytes of each
 part-bytes : (s : List ℕ) (ps : List (List ℕ)) (at i : ℕ) → at ≤ length s → drop at s ≡ joined ps ++ [] → i < length ps

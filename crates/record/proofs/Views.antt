@@ -19,7 +19,7 @@ use Rattle.item.proofs.Exact.{got, none≢, nothing-inv, bytes-drop}
 use Rattle.value.specs.Tree.{tree, inside}
 use Rattle.value.proofs.Contents.{decode-node}
 use Rattle.value.proofs.Invariants.{taken}
-use Rattle.value.specs.Walks.{Read, Walks}
+use Rattle.value.specs.Walks.{ReadAt, Walks}
 use Rattle.value.specs.declared.End.{End}
 use Rattle.value.specs.declared.End.the-variants.{At, Nowhere}
 use Rattle.meaning.specs.Meaning.{stepFields, builtInSteps}
@@ -246,7 +246,7 @@ no-text l bs e = go (tree l bs) e
     go (some x) e = last x (asText (x .0)) e
 
 -- a text by its place
-pub text-part : (s : List ℕ) (at to : ℕ) → Bytes s → (w : Read (fieldOf asText 0) s at to) → take (to - (at + 6)) (drop (at + 6) s) ≡ w .value
+pub text-part : (s : List ℕ) (at to : ℕ) → Bytes s → (w : ReadAt (fieldOf asText 0) s at to) → take (to - (at + 6)) (drop (at + 6) s) ≡ w .value
 unfolding textItem encode item
 text-part s at to b w =
     let k = w .value in

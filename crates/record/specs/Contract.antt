@@ -1,4 +1,5 @@
--- What the functions inside the check answer, by the definitions of `Read`. Assumes nothing.
+-- Section 5 of document 01, for the contracts inside the crate: what the functions inside the check answer, by the definitions of Read.
+-- Uses Base of `refusal`; Tree and Encode of `item`; Meaning of `meaning`; Jobs and Read of this crate. Assumes nothing.
 use mathlib.Core.Path.{_≡_}
 use Prim.Native.Nat.{ℕ, _+_, _-_, _≤_}
 use mathlib.Core.List.{List}

@@ -1,4 +1,5 @@
--- What the jobs on a record answer (document 01, sections 5 and 6). Assumes nothing.
+-- Sections 5 and 6 of document 01: what the jobs on a record answer. Uses Base and Told of `refusal`; Meaning and Record of `meaning`; Read
+-- of this crate. Assumes nothing.
 use Prim.Native.Nat.{ℕ, zero, suc, _+_, _-_}
 use mathlib.Core.List.{List, [], map}
 use mathlib.Core.Bool.{_&&_}
@@ -68,7 +69,3 @@ abbrev pub lookupOf : Lookup → Answer Found
 lookupOf (FoundPart start end) = good (part start end)
 lookupOf Nothing = good nothing
 lookupOf (LookupRefused e) = refusal e
-
-unfoldable pub Jobs-open : Unit {0}
-unfolding opened checkRecord partAt numbered field stepsStart step partOf
-Jobs-open = tt

@@ -1,17 +1,17 @@
--- A record read back: the meaning of bytes that are the record of one within the rules, and none of any other bytes (`Exact` and
--- `RoundTrip` show both). Assumes nothing.
+-- Section 5 of document 01, read back: the meaning of bytes that are the record of one within the rules, and none of any other bytes (Exact
+-- and RoundTrip of proofs/ show both). Uses Base of `refusal`; Tree and Decode of `item`; Meaning of `meaning`; Tree of `value`. Assumes
+-- nothing.
 use Prim.Native.Nat.{ℕ, zero, suc}
 use mathlib.Core.List.{List, [], _∷_}
 use mathlib.Core.Bool.{Bool}
 use mathlib.Core.Option.{Option, none, some}
 use lib.Dec.{leb, eqb}
 use lib.ListN.{length}
-use Rattle.refusal.specs.Base.{if_then_else_, oneOf}
+use Rattle.refusal.specs.Base.{if_then_else_, oneOf, limit}
 use Rattle.item.specs.Tree.{Yaml, Items, Entries, null, bool, int, str, seq, dict}
 use Rattle.item.specs.Decode.{_>>=_, Decoder, header, nothing}
 use Rattle.value.specs.Tree.{tree}
 use Rattle.meaning.specs.Meaning.{Defaults, Step, Meaning, stepFields, builtInSteps}
-use Rattle.meaning.specs.Rules.{limit}
 
 -- ---- one field
 
@@ -142,7 +142,3 @@ meaningIn b =
     if leb (length b) limit
     then (inItem 16 fieldsIn b >>= λ (x : Meaning × List ℕ). nothing (x .0) (x .1))
     else none
-
-unfoldable pub Read-open : Unit {0}
-unfolding fieldOf asText asOptional asFlag asItems asCommand asExpect content inItem many all stepIn defaultsIn restIn fieldsIn meaningIn
-Read-open = tt

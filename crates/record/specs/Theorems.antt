@@ -1,10 +1,11 @@
--- What the jobs on a record are for: the check accepts just the records of meanings that keep the rules, and by the lookups a
--- record's whole meaning is read back. Assumes nothing.
-use mathlib.Core.Path.{_≡_, _∙_}
-use Prim.Native.Nat.{ℕ, zero, suc, _+_, _-_, _≤_, _<_}
-use mathlib.Core.List.{List, [], _∷_, _++_, map}
+-- Section 5 of document 01: what the jobs on a record are for. The check accepts just the records of meanings that keep the rules, and by
+-- the lookups a record's whole meaning is read back. Uses Base of `refusal`; Encode of `item`; Meaning, Record and Rules of `meaning`; Jobs
+-- of this crate. Assumes nothing.
+use mathlib.Core.Path.{_≡_}
+use Prim.Native.Nat.{ℕ, zero, suc}
+use mathlib.Core.List.{List, [], _∷_, map}
 use lib.ListN.{length}
-use Rattle.refusal.specs.Base.{Answer, good, refused, _>>=_}
+use Rattle.refusal.specs.Base.{Answer, good, refused}
 use Rattle.item.specs.Encode.{item}
 use Rattle.meaning.specs.Meaning.{Meaning}
 use Rattle.meaning.specs.Record.{joined}

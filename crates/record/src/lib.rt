@@ -1,25 +1,24 @@
 // The record of a scenario (document 01, section 5): the check that bytes are one, and the lookups of its fields and steps. A record
 // comes from outside, so every job takes any bytes, checks them itself and writes nothing.
 ghost use mathlib.Core.Path.{_≡_};
-ghost use Prim.Native.Nat.{_≤_};
+ghost use Prim.Native.Nat.{_≤_, _^_};
 ghost use lib.ListN.{length, drop};
 ghost use Rattle.value.specs.Walks.{Walks};
 ghost use Rattle.record.specs.Read.{fieldOf};
 ghost use Rattle.record.specs.Jobs as definition;
 ghost use Rattle.record.specs.Jobs.{partOf, answerOf, lookupOf};
-ghost use Rattle.record.specs.Contract.{spanOf, ofKind, expectKind, ItemEnds, areTexts, areDefaults, isStep, stepsIn, restSteps, meaningSteps, countOf};
+ghost use Rattle.record.specs.Contract.{spanOf, ofKind, expectKind, ItemEnds, areTexts, areDefaults, isStep, stepsIn, restSteps};
+ghost use Rattle.record.specs.Contract.{meaningSteps, countOf};
 use entries::Span;
 use entries::nth_item;
 use item::Header;
+use item::LIMIT;
 use item::header_at;
 use meaning::is_built_in;
 use meaning::is_step_field;
 use refusal::Refusal;
 use value::End;
 use value::value_at;
-
-// The most bytes that a record has.
-const LIMIT: usize = 1048576;
 
 // What the check of a record answers.
 pub enum RecordAnswer {
@@ -52,7 +51,7 @@ fn expect_kind(key: &[u8]) -> usize
 
 // The end of the value at `at`, whose kind must be one of two.
 fn value_of(s: &[u8], at: usize, one: usize, other: usize, levels: usize) -> End
-    requires { ⌜ length (now s) ≤ 1048576 ⌝ }
+    requires { ⌜ length (now s) ≤ 2 ^ 20 ⌝ }
     ensures { λ r. ⌜ Walks (fieldOf (ofKind one other) levels) (now (s .entry)) at r ⌝ }
 {
     let head = header_at(s, at);
@@ -89,7 +88,7 @@ fn item_of(s: &[u8], at: usize, wanted: usize) -> End
 
 // Whether these are the items of tags.
 fn texts(s: &[u8]) -> bool
-    requires { ⌜ length (now s) ≤ 1048576 ⌝ }
+    requires { ⌜ length (now s) ≤ 2 ^ 20 ⌝ }
     ensures { λ r. ⌜ r ≡ areTexts (now (s .entry)) ⌝ }
 {
     let mut at = 0;
@@ -104,7 +103,7 @@ fn texts(s: &[u8]) -> bool
 }
 
 fn defaults(s: &[u8]) -> bool
-    requires { ⌜ length (now s) ≤ 1048576 ⌝ }
+    requires { ⌜ length (now s) ≤ 2 ^ 20 ⌝ }
     ensures { λ r. ⌜ r ≡ areDefaults (now (s .entry)) ⌝ }
 {
     let timeout = value_of(s, 0, 0, 3, 0);
@@ -120,7 +119,7 @@ fn defaults(s: &[u8]) -> bool
 
 // Whether this is the content of a step.
 fn step_content(s: &[u8]) -> bool
-    requires { ⌜ length (now s) ≤ 1048576 ⌝ }
+    requires { ⌜ length (now s) ≤ 2 ^ 20 ⌝ }
     ensures { λ r. ⌜ r ≡ isStep (now (s .entry)) ⌝ }
 {
     let name = value_of(s, 0, 3, 3, 0);
@@ -158,7 +157,7 @@ fn step_content(s: &[u8]) -> bool
 }
 
 fn steps(s: &[u8]) -> Count
-    requires { ⌜ length (now s) ≤ 1048576 ⌝ }
+    requires { ⌜ length (now s) ≤ 2 ^ 20 ⌝ }
     ensures { λ r. ⌜ countOf r ≡ stepsIn (now (s .entry)) ⌝ }
 {
     let mut at = 0;
@@ -179,7 +178,7 @@ fn steps(s: &[u8]) -> Count
 
 // The last three fields: defaults, fail_on and steps.
 fn rest(s: &[u8], at: usize) -> Count
-    requires { ⌜ length (now s) ≤ 1048576 ⌝ }
+    requires { ⌜ length (now s) ≤ 2 ^ 20 ⌝ }
     ensures { λ r. ⌜ countOf r ≡ restSteps (drop at (now (s .entry))) ⌝ }
 {
     let pair = item_of(s, at, 17);
@@ -205,7 +204,7 @@ fn rest(s: &[u8], at: usize) -> Count
 
 // All eight fields, and how many steps the last has.
 fn fields(s: &[u8]) -> Count
-    requires { ⌜ length (now s) ≤ 1048576 ⌝ }
+    requires { ⌜ length (now s) ≤ 2 ^ 20 ⌝ }
     ensures { λ r. ⌜ countOf r ≡ meaningSteps (now (s .entry)) ⌝ }
 {
     let name = value_of(s, 0, 3, 3, 0);

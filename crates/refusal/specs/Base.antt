@@ -1,4 +1,5 @@
--- The words that the definitions of every crate are written in: what a reading answers, and a choice. Assumes nothing.
+-- The words that the definitions of every crate are written in: what a reading answers, a choice, byte strings, document 01's one limit on
+-- bytes. Uses no other. Assumes nothing.
 use Prim.Native.Nat.{ℕ}
 use Prim.Native.Char.{Char, code}
 use Prim.Native.String as S
@@ -42,6 +43,10 @@ unfoldable pub ensure : Bool → ℕ → ℕ → ℕ → Answer (Unit {0})
 ensure true n l s = good tt
 ensure false n l s = refused n l s
 
+-- of a lent output at most so many bytes count, and a record has at most so many
+abbrev pub limit : ℕ
+limit = 1048576
+
 -- a character of document 01 as its byte, and a text of it as its bytes (only ASCII is written so)
 abbrev pub ch : Char → ℕ
 ch c = code c
@@ -69,7 +74,3 @@ endsWith p (b ∷ bs) = same p (b ∷ bs) || endsWith p bs
 unfoldable pub empty : {A : Type 0} → List A → Bool
 empty [] = true
 empty (a ∷ rest) = false
-
-unfoldable pub Base-open : Unit {0}
-unfolding _>>=_ _>>_ if_then_else_ maybe given ensure bytes same oneOf endsWith empty
-Base-open = tt

@@ -1,9 +1,16 @@
--- The number, the line and the step that an answer names of each refusal (document 01, "Answers"). Assumes nothing.
+-- Document 01, "Answers": the number, the line and the step that an answer names of each refusal. Uses Base of this crate. Assumes nothing.
 use Prim.Native.Nat.{ℕ}
 use Rattle.refusal.specs.Base.{Answer, refused}
 use Rattle.refusal.specs.declared.Told.{Told}
 use Rattle.refusal.specs.declared.Refusal.{Refusal}
-use Rattle.refusal.specs.declared.Refusal.the-variants.{TextTooLong, NotUtf8, TooManyLines, TabInIndentation, DocumentMarker, LinesLeft, AnchorAliasOrTag, TextAfterValue, FlowMappingOpen, FlowSequenceOpen, EscapeCut, UnknownEscape, QuoteOpen, EmptyKey, ComplexKey, KeyNotScalar, KeyWithoutColon, KeyTwice, StuckSequence, TooDeep, DocumentNotMapping, UnknownTopKey, OtherSchema, NoSchema, NoName, TagsNotSequence, FailOnNotSequence, DefaultsNotMapping, UnknownDefault, DefaultNotScalar, StepsNotSequence, StepNotMapping, ExpectNotMapping, NotOneCommand, ExpectBesideBuiltIn, UnknownCommand, RepeatWithoutSteps, TimesNotPositive, TimesTooLarge, Malformed, WorkTooShort, TooFewLinePlaces, RecordTooLong, OutOfRange}
+use Rattle.refusal.specs.declared.Refusal.the-variants.{TextTooLong, NotUtf8, TooManyLines, TabInIndentation, DocumentMarker, LinesLeft, AnchorAliasOrTag}
+use Rattle.refusal.specs.declared.Refusal.the-variants.{TextAfterValue, FlowMappingOpen, FlowSequenceOpen, EscapeCut, UnknownEscape, QuoteOpen, EmptyKey}
+use Rattle.refusal.specs.declared.Refusal.the-variants.{ComplexKey, KeyNotScalar, KeyWithoutColon, KeyTwice, StuckSequence, TooDeep, DocumentNotMapping}
+use Rattle.refusal.specs.declared.Refusal.the-variants.{UnknownTopKey, OtherSchema, NoSchema, NoName, TagsNotSequence, FailOnNotSequence}
+use Rattle.refusal.specs.declared.Refusal.the-variants.{DefaultsNotMapping, UnknownDefault, DefaultNotScalar, StepsNotSequence, StepNotMapping}
+use Rattle.refusal.specs.declared.Refusal.the-variants.{ExpectNotMapping, NotOneCommand, ExpectBesideBuiltIn, UnknownCommand, RepeatWithoutSteps}
+use Rattle.refusal.specs.declared.Refusal.the-variants.{TimesNotPositive, TimesTooLarge, Malformed, WorkTooShort, TooFewLinePlaces, RecordTooLong}
+use Rattle.refusal.specs.declared.Refusal.the-variants.{OutOfRange}
 
 abbrev pub told : ℕ → ℕ → ℕ → Told
 told n l s = record { number = n; line = l; step = s }

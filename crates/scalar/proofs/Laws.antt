@@ -22,7 +22,7 @@ use Rattle.scalar.specs.declared.Parsed.{Parsed}
 use Rattle.scalar.specs.declared.Parsed.the-variants.{Done, Refused}
 use Rattle.scalar.specs.Scalars.{nulls, trues, falses, boolText, intText, scalarOf}
 use Rattle.scalar.specs.Read.{cost, charge, scalar, endsItem, endsColon, stopsPlain, plainText, onto, plain}
-use Rattle.scalar.specs.Contract.{written, isKey, Agrees}
+use Rattle.scalar.specs.Contract.{written, isKey, AgreesParsed}
 use Rattle.scalar.specs.Code.{Puts, plainLen}
 
 -- ---- what a scalar is written as
@@ -60,7 +60,7 @@ written-text AsKey s = refl
 
 -- a scalar whose bytes are stored, or have no room, is read as the definition says
 module _ (role : Role) (y : Yaml) (flat : Flat y) (s old new : List ℕ) (at next number : ℕ) (h : next ≤ length s) where
-  pub puts-agree : (r : Parsed) → Puts old new at next (written role y) (isKey y) r → Agrees role (scalar (length old) number role at y (drop next s)) s old new at r
+  pub puts-agree : (r : Parsed) → Puts old new at next (written role y) (isKey y) r → AgreesParsed role (scalar (length old) number role at y (drop next s)) s old new at r
   unfolding scalar charge _>>=_ if_then_else_
   puts-agree (Done n used k) p =
       let w : length (written role y) ≡ cost role y = written-cost role y flat in

@@ -2,3 +2,4 @@ pub mod KeyLaws
 pub mod Laws
 pub mod NumberLaws
 pub mod QuoteLaws
+pub mod Open

@@ -67,7 +67,7 @@ module _ (s : List ℕ) (i : ℕ) where
 
 -- ---- the sign
 
-negative-bounded : (o : Option ℕ) → negative o ≡ bounded true 9223372036854775808 o
+negative-bounded : (o : Option ℕ) → negative o ≡ bounded true (2 ^ 63) o
 unfolding negative bounded signed
 negative-bounded none = refl
 negative-bounded (some n) = refl
@@ -75,11 +75,11 @@ negative-bounded (some n) = refl
 positive-bounded : (o : Option ℕ) → positive o ≡ bounded false 9223372036854775807 o
 unfolding positive bounded signed if_then_else_
 positive-bounded none = refl
-positive-bounded (some n) = go (ltb n 9223372036854775808) refl
+positive-bounded (some n) = go (ltb n (2 ^ 63)) refl
   where
-    go : (x : Bool) → ltb n 9223372036854775808 ≡ x → positive (some n) ≡ bounded false 9223372036854775807 (some n)
-    go true e = rw (e, le-leb n 9223372036854775807 (omega (arith, ltb-true n 9223372036854775808 e)))
-    go false e = rw (e, lt-leb n 9223372036854775807 (omega (arith, ltb-false n 9223372036854775808 e)))
+    go : (x : Bool) → ltb n (2 ^ 63) ≡ x → positive (some n) ≡ bounded false 9223372036854775807 (some n)
+    go true e = rw (e, le-leb n 9223372036854775807 (omega (arith, ltb-true n (2 ^ 63) e)))
+    go false e = rw (e, lt-leb n 9223372036854775807 (omega (arith, ltb-false n (2 ^ 63) e)))
 
 pub int-none : (s : List ℕ) → length s ≡ 0 → integer s ≡ none
 unfolding integer
@@ -117,7 +117,7 @@ pub decimal-one : (n : ℕ) → n < 10 → decimalOf 20 n ≡ (48 + n) ∷ []
 unfolding decimalOf if_then_else_
 decimal-one n h = rw (lt-ltb n 10 h)
 
-pub decimal-more : (n : ℕ) → 10 ≤ n → n < 18446744073709551616 → decimalOf 20 n ≡ decimalOf 20 (n / 10) ++ ((48 + n % 10) ∷ [])
+pub decimal-more : (n : ℕ) → 10 ≤ n → n < 2 ^ 64 → decimalOf 20 n ≡ decimalOf 20 (n / 10) ++ ((48 + n % 10) ∷ [])
 unfolding decimalOf if_then_else_
 decimal-more n h k = rw (le-ltb n 10 h) (ap (λ (l : List ℕ). l ++ ((48 + n % 10) ∷ [])) (decimal-place 18 (n / 10) (omega arith)))
 
@@ -136,11 +136,11 @@ decimal-twenty n = decimal-short 20 n
 pub length-one : (n : ℕ) → n < 10 → length (decimalOf 20 n) ≡ 1
 length-one n h = rw (decimal-one n h)
 
-pub length-more : (n : ℕ) → 10 ≤ n → n < 18446744073709551616 → length (decimalOf 20 n) ≡ length (decimalOf 20 (n / 10)) + 1
+pub length-more : (n : ℕ) → 10 ≤ n → n < 2 ^ 64 → length (decimalOf 20 n) ≡ length (decimalOf 20 (n / 10)) + 1
 length-more n h k = ap length (decimal-more n h k) ∙ length-append (decimalOf 20 (n / 10)) ((48 + n % 10) ∷ [])
 
 -- the last digit is stored first
-pub digit-back : (out : List ℕ) (at end n : ℕ) → 10 ≤ n → n < 18446744073709551616 → end ≡ at + length (decimalOf 20 n)
+pub digit-back : (out : List ℕ) (at end n : ℕ) → 10 ≤ n → n < 2 ^ 64 → end ≡ at + length (decimalOf 20 n)
     → sets (set out (end - 1) (48 + n % 10)) at (decimalOf 20 (n / 10)) ≡ sets out at (decimalOf 20 n)
 digit-back out at end n h k e =
     let p : end - 1 ≡ at + length (decimalOf 20 (n / 10)) = omega (arith, length-more n h k) in

@@ -20,11 +20,11 @@ use Rattle.item.proofs.Runs.{sets-next}
 use Rattle.scalar.specs.declared.Role.{Role}
 use Rattle.scalar.specs.declared.Parsed.{Parsed}
 use Rattle.scalar.specs.declared.quoted_text.Escape.the-variants.{Byte, Unknown}
-use Rattle.scalar.specs.declared.quoted_text.Step.{Step}
-use Rattle.scalar.specs.declared.quoted_text.Step.the-variants as step
+use Rattle.scalar.specs.declared.quoted_text.Piece.{Piece}
+use Rattle.scalar.specs.declared.quoted_text.Piece.the-variants as piece
 use Rattle.scalar.specs.Read.{Got, escape, stop, scalar, ontoGood, doubleQuoted, singleQuoted, string}
-use Rattle.scalar.specs.Code.{Puts, escapeOf, Content, Steps, Spanned}
-use Rattle.scalar.specs.Contract.{isKey, Agrees}
+use Rattle.scalar.specs.Code.{Puts, escapeOf, Content, AgreesPiece, Spanned}
+use Rattle.scalar.specs.Contract.{isKey, AgreesParsed}
 use Rattle.scalar.proofs.Laws.{written-text, puts-agree}
 
 -- ---- escapes
@@ -48,10 +48,10 @@ of-byte none b e = absurd (let z : _≡_ {A = ℕ} 0 1 = cc in omega arith)
 of-byte (some a) b e = let q : a ≡ b = cc in rw q
 
 -- what stands behind a byte that says nothing itself
-pub steps-behind : (f g : List ℕ → Content) (cap line : ℕ) (s : List ℕ) (i : ℕ) → g (drop i s) ≡ f (drop (i + 1) s) → (r : Step) → Steps f g cap line s (i + 1) r → Steps g g cap line s i r
-steps-behind f g cap line s i e (step.Byte b n) (p, h, k) = (e ∙ p, omega arith, k)
-steps-behind f g cap line s i e (step.Shut n) (p, h) = (e ∙ p, h)
-steps-behind f g cap line s i e (step.Refused x) p = e ∙ p
+pub stands-behind : (f g : List ℕ → Content) (cap line : ℕ) (s : List ℕ) (i : ℕ) → g (drop i s) ≡ f (drop (i + 1) s) → (r : Piece) → AgreesPiece f g cap line s (i + 1) r → AgreesPiece g g cap line s i r
+stands-behind f g cap line s i e (piece.Byte b n) (p, h, k) = (e ∙ p, omega arith, k)
+stands-behind f g cap line s i e (piece.Shut n) (p, h) = (e ∙ p, h)
+stands-behind f g cap line s i e (piece.Refused x) p = e ∙ p
 
 -- a byte is stored behind those before it
 pub stored-more : (old new t : List ℕ) (at k b : ℕ) → k < length t → new ≡ sets old at (take k t) → b ≡ getD t k 0 → set new (at + k) b ≡ sets old at (take (k + 1) t)
@@ -199,9 +199,9 @@ module _ (cap line : ℕ) where
 
 -- a quoted string whose item is stored, or has no room, is read as the definition says
 pub quoted-agree : (role : Role) (f : List ℕ → Content) (s old new : List ℕ) (at line i next size : ℕ) (p : Spanned f s i next size) (r : Parsed)
-    → Puts old new at next (item 3 (p .content)) true r → Agrees role (string (length old) line role at (f (drop i s))) s old new at r
+    → Puts old new at next (item 3 (p .content)) true r → AgreesParsed role (string (length old) line role at (f (drop i s))) s old new at r
 unfolding isKey
 quoted-agree role f s old new at line i next size p r q =
-    subst (λ (x : Answer (Got Yaml)). Agrees role x s old new at r)
+    subst (λ (x : Answer (Got Yaml)). AgreesParsed role x s old new at r)
     (sym (ap (string (length old) line role at) (p .is) ∙ string-good (length old) line role at (p .content) (drop next s)))
     (puts-agree role (str (p .content)) tt s old new at next line (p .forward) r (rw (written-text role (p .content)) q))

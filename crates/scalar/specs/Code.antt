@@ -1,4 +1,5 @@
--- What the code's answers say in the words of the definitions, and plain text by its length. Assumes nothing.
+-- Section 2 of document 01, for the contracts inside the crate: what the code's answers say in the words of the definitions, and plain text
+-- by its length. Uses Base and Told of `refusal`; Tree and Encode of `item`; Read of this crate. Assumes nothing.
 use mathlib.Core.Path.{_≡_}
 use Prim.Native.Nat.{ℕ, suc, _+_, _≤_, _<_}
 use mathlib.Core.List.{List, [], _∷_}
@@ -23,8 +24,8 @@ use Rattle.scalar.specs.declared.plain_text.Kind.{Kind}
 use Rattle.scalar.specs.declared.plain_text.Kind.the-variants as kind
 use Rattle.scalar.specs.declared.quoted_text.Quote.{Quote}
 use Rattle.scalar.specs.declared.quoted_text.Quote.the-variants.{Single, Double}
-use Rattle.scalar.specs.declared.quoted_text.Step.{Step}
-use Rattle.scalar.specs.declared.quoted_text.Step.the-variants as step
+use Rattle.scalar.specs.declared.quoted_text.Piece.{Piece}
+use Rattle.scalar.specs.declared.quoted_text.Piece.the-variants as piece
 use Rattle.scalar.specs.declared.quoted_text.Escape.{Escape}
 use Rattle.scalar.specs.declared.quoted_text.Escape.the-variants as escaped
 use Rattle.scalar.specs.declared.quoted_text.Span.{Span}
@@ -91,10 +92,10 @@ quotedOf Single cap line bs = singleQuoted cap line false bs
 quotedOf Double cap line bs = doubleQuoted cap line false bs
 
 -- what stands at `i`, of a string that is read by `f`, and behind its first byte by `g`
-abbrev pub Steps : (List ℕ → Content) → (List ℕ → Content) → ℕ → ℕ → List ℕ → ℕ → Step → Type 0
-Steps f g cap line s i (step.Byte b n) = (f (drop i s) ≡ ontoGood cap line b (g (drop n s))) × (i < n) × (n ≤ length s)
-Steps f g cap line s i (step.Shut n) = (f (drop i s) ≡ good ([], drop n s)) × (n ≤ length s)
-Steps f g cap line s i (step.Refused e) = f (drop i s) ≡ refusal e
+abbrev pub AgreesPiece : (List ℕ → Content) → (List ℕ → Content) → ℕ → ℕ → List ℕ → ℕ → Piece → Type 0
+AgreesPiece f g cap line s i (piece.Byte b n) = (f (drop i s) ≡ ontoGood cap line b (g (drop n s))) × (i < n) × (n ≤ length s)
+AgreesPiece f g cap line s i (piece.Shut n) = (f (drop i s) ≡ good ([], drop n s)) × (n ≤ length s)
+AgreesPiece f g cap line s i (piece.Refused e) = f (drop i s) ≡ refusal e
 
 -- a string from `i` on of `size` bytes, which ends at `next`
 pub record Spanned (f : List ℕ → Content) (s : List ℕ) (i next size : ℕ) : Type 0 where
@@ -107,7 +108,3 @@ pub record Spanned (f : List ℕ → Content) (s : List ℕ) (i next size : ℕ)
 abbrev pub Spans : (List ℕ → Content) → List ℕ → ℕ → Span → Type 0
 Spans f s i (span.Ends next size) = Spanned f s i next size
 Spans f s i (span.Refused e) = f (drop i s) ≡ refusal e
-
-unfoldable pub Code-open : Unit {0}
-unfolding bounded plainLen
-Code-open = tt

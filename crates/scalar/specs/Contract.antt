@@ -1,4 +1,5 @@
--- What the readers promise: the answer of the definition, and the bytes that they wrote. Assumes nothing.
+-- Section 2 of document 01, for contracts: the answer of a reader and the bytes that it wrote. Uses Base and Told of `refusal`; Tree and
+-- Encode of `item`; Scalars and Read of this crate. Assumes nothing.
 use mathlib.Core.Path.{_≡_}
 use Prim.Native.Nat.{ℕ, _+_, _≤_}
 use mathlib.Core.List.{List, []}
@@ -36,7 +37,7 @@ isKey (seq ys) = false
 isKey (dict es) = false
 
 -- a value read from `s` up to `next`, and written from `at` up to `used`
-pub record Wrote (role : Role) (answer : Answer (Got Yaml)) (s old new : List ℕ) (at next used : ℕ) (key : Bool) : Type 0 where
+pub record WroteValue (role : Role) (answer : Answer (Got Yaml)) (s old new : List ℕ) (at next used : ℕ) (key : Bool) : Type 0 where
   pub tree : Yaml
   pub is : answer ≡ good (tree, used, drop next s)
   pub bytes : new ≡ sets old at (written role tree)
@@ -45,10 +46,6 @@ pub record Wrote (role : Role) (answer : Answer (Got Yaml)) (s old new : List �
   pub forward : next ≤ length s
   pub keyed : key ≡ isKey tree
 
-abbrev pub Agrees : Role → Answer (Got Yaml) → List ℕ → List ℕ → List ℕ → ℕ → Parsed → Type 0
-Agrees role answer s old new at (Done next used key) = Wrote role answer s old new at next used key
-Agrees role answer s old new at (Refused e) = answer ≡ refusal e
-
-unfoldable pub Agree-open : Unit {0}
-unfolding written isKey
-Agree-open = tt
+abbrev pub AgreesParsed : Role → Answer (Got Yaml) → List ℕ → List ℕ → List ℕ → ℕ → Parsed → Type 0
+AgreesParsed role answer s old new at (Done next used key) = WroteValue role answer s old new at next used key
+AgreesParsed role answer s old new at (Refused e) = answer ≡ refusal e

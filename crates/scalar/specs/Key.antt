@@ -1,4 +1,4 @@
--- Section 2 of document 01: the search for a key's end (`key_end`). Assumes nothing.
+-- Section 2 of document 01: the search for a key's end (`key_end`). Uses Base of `refusal`. Assumes nothing.
 use Prim.Native.Nat.{ℕ, suc, _-_}
 use mathlib.Core.List.{List, [], _∷_}
 use mathlib.Core.Bool.{Bool, true, false, _&&_, _||_, not}
@@ -43,7 +43,3 @@ keyEndFrom q depth at (b ∷ bs) =
 
 unfoldable pub keyEnd : List ℕ → Option ℕ
 keyEnd s = keyEndFrom 0 0 0 s
-
-unfoldable pub Key-open : Unit {0}
-unfolding quoteAfter opens closes lastOrSpace depthAfter qualifies keyEndFrom keyEnd
-Key-open = tt

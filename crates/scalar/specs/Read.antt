@@ -1,4 +1,5 @@
--- Section 2 of document 01: one line's scalars, and what they add to the running sum of refusal 50. Assumes nothing.
+-- Section 2 of document 01: one line's scalars, and what they add to the running sum of refusal 50. Uses Base of `refusal`; White of
+-- `utf8`; Tree of `item`; Scalars of this crate. Assumes nothing.
 use Prim.Native.Nat.{ℕ, _+_}
 use mathlib.Core.List.{List, [], _∷_}
 use mathlib.Core.Bool.{Bool, true, false, _&&_, _||_}
@@ -120,7 +121,3 @@ module _ (cap number : ℕ) where
   string role sum t = do
     (s, rest) ← t
     scalar role sum (str s) rest
-
-unfoldable pub Read-open : Unit {0}
-unfolding cost skipSpaces endsItem endsColon stopsPlain plainText escape charge stop scalar doubleQuoted singleQuoted plain string
-Read-open = tt

@@ -1,4 +1,5 @@
--- Scalars: the last rules of section 2 of document 01 (`scalar_of`, `as_str`). Assumes nothing.
+-- Section 2 of document 01, its last rules: scalars (`scalar_of`, `as_str`). Uses Base of `refusal`; Utf8 of `utf8`; Tree of `item`.
+-- Assumes nothing.
 use Prim.Native.Nat.{ℕ, zero, suc, _+_, _*_, _-_, _/_, _%_, _^_}
 use mathlib.Core.List.{List, [], _∷_, _++_}
 use mathlib.Core.Bool.{Bool, true, false, _&&_, not}
@@ -88,7 +89,3 @@ keyText (int z) = some (intText z)
 keyText (str s) = some s
 keyText (seq ys) = none
 keyText (dict es) = none
-
-unfoldable pub Scalars-open : Unit {0}
-unfolding isDigit allDigits decimalFrom digits positive negative integer intOr scalarOf decimalOf intText boolText keyText
-Scalars-open = tt

@@ -1,6 +1,6 @@
 // Integers: decimal digits read and written.
 ghost use mathlib.Core.Path.{_≡_};
-ghost use Prim.Native.Nat.{_+_, _≤_, _<_};
+ghost use Prim.Native.Nat.{_+_, _≤_, _<_, _^_};
 ghost use lib.ListN.{length, drop};
 ghost use lib.Seq.{sets};
 ghost use Rattle.item.specs.Encode.{signed};
@@ -22,7 +22,7 @@ fn wide(b: u8) -> u64
 
 // The number that the digits from `from` on make, of which there is at least one, if it is at most `limit`.
 fn digits(t: &[u8], from: usize, negative: bool, limit: u64) -> Number
-    requires { ⌜ (from ≤ length (now t)) × (9 ≤ limit) × (limit ≤ 9223372036854775808) ⌝ }
+    requires { ⌜ (from ≤ length (now t)) × (9 ≤ limit) × (limit ≤ 2 ^ 63) ⌝ }
     ensures { λ r. ⌜ intOf r ≡ bounded negative limit (digits (drop from (now (t .entry)))) ⌝ }
 {
     if from == t.len() {

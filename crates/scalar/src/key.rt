@@ -1,6 +1,6 @@
 // The search for a key's end: the first colon outside quotes and brackets that is last or stands before a space.
 ghost use mathlib.Core.Path.{_≡_};
-ghost use Prim.Native.Nat.{_≤_, _<_};
+ghost use Prim.Native.Nat.{_≤_, _<_, _^_};
 ghost use lib.ListN.{length, drop};
 ghost use Rattle.scalar.specs.Key.{quoteAfter, depthAfter, qualifies, keyEnd};
 ghost use Rattle.scalar.specs.Code.{foundOf};
@@ -24,7 +24,7 @@ fn quote_after(q: u8, b: u8) -> u8
 
 // How many brackets are open behind the byte `b`. Either closer ends either bracket, and one too many does nothing.
 fn depth_after(q: u8, depth: usize, b: u8) -> usize
-    requires { ⌜ depth < 65536 ⌝ }
+    requires { ⌜ depth < 2 ^ 16 ⌝ }
     ensures { λ r. ⌜ r ≡ depthAfter q depth b ⌝ }
 {
     if q != 0 {

@@ -2,7 +2,7 @@
 ghost use mathlib.Core.Path.{_≡_};
 ghost use mathlib.Core.Bool.{true, false};
 ghost use mathlib.Core.List.{List};
-ghost use Prim.Native.Nat.{ℕ, _+_, _≤_, _<_};
+ghost use Prim.Native.Nat.{ℕ, _+_, _≤_, _<_, _^_};
 ghost use lib.ListN.{length, drop, getD};
 ghost use Rattle.refusal.specs.Base.{oneOf};
 ghost use Rattle.item.specs.Tree.{null, bool, int};
@@ -10,7 +10,7 @@ ghost use Rattle.item.specs.Encode.{signed, item};
 ghost use Rattle.scalar.specs.Scalars.{nulls, trues, falses, scalarOf, intText};
 ghost use Rattle.scalar.specs.Read as read;
 ghost use Rattle.scalar.specs.Read.{endsItem, endsColon, stopsPlain, scalar};
-ghost use Rattle.scalar.specs.Contract.{written, Agrees};
+ghost use Rattle.scalar.specs.Contract.{written, AgreesParsed};
 ghost use Rattle.scalar.specs.Code.{yamlOf, Puts, plainLen};
 use super::Parsed;
 use super::Role;
@@ -112,7 +112,7 @@ fn kind_of(t: &[u8]) -> Kind
 
 // A string's item is the same in a key's place.
 fn text_at(t: &[u8], next: usize, out: &mut [u8], at: usize) -> Parsed
-    requires { ⌜ (length (now t) ≤ 65535) × (at ≤ length (now out)) × (length (now out) ≤ 1048576) ⌝ }
+    requires { ⌜ (length (now t) ≤ 65535) × (at ≤ length (now out)) × (length (now out) ≤ 2 ^ 20) ⌝ }
     ensures { λ r. ⌜ Puts (now (out .entry)) (now (out .exit)) at next (item 3 (now (t .entry))) true r ⌝ }
 {
     let size = 6 + t.len();
@@ -128,7 +128,7 @@ fn text_at(t: &[u8], next: usize, out: &mut [u8], at: usize) -> Parsed
 }
 
 fn put_null_as(next: usize, role: Role, out: &mut [u8], at: usize) -> Parsed
-    requires { ⌜ (at ≤ length (now out)) × (length (now out) ≤ 1048576) ⌝ }
+    requires { ⌜ (at ≤ length (now out)) × (length (now out) ≤ 2 ^ 20) ⌝ }
     ensures { λ r. ⌜ Puts (now (out .entry)) (now (out .exit)) at next (written role null) false r ⌝ }
 {
     let Role::AsValue = role else {
@@ -150,7 +150,7 @@ fn put_null_as(next: usize, role: Role, out: &mut [u8], at: usize) -> Parsed
 }
 
 fn put_bool_as(value: bool, next: usize, role: Role, out: &mut [u8], at: usize) -> Parsed
-    requires { ⌜ (at ≤ length (now out)) × (length (now out) ≤ 1048576) ⌝ }
+    requires { ⌜ (at ≤ length (now out)) × (length (now out) ≤ 2 ^ 20) ⌝ }
     ensures { λ r. ⌜ Puts (now (out .entry)) (now (out .exit)) at next (written role (bool value)) true r ⌝ }
 {
     let Role::AsValue = role else {
@@ -171,7 +171,7 @@ fn put_bool_as(value: bool, next: usize, role: Role, out: &mut [u8], at: usize) 
 }
 
 fn int_key_at(negative: bool, magnitude: u64, next: usize, out: &mut [u8], at: usize) -> Parsed
-    requires { ⌜ (at ≤ length (now out)) × (length (now out) ≤ 1048576) ⌝ }
+    requires { ⌜ (at ≤ length (now out)) × (length (now out) ≤ 2 ^ 20) ⌝ }
     ensures { λ r. ⌜ Puts (now (out .entry)) (now (out .exit)) at next (item 3 (intText (signed negative magnitude))) true r ⌝ }
 {
     let size = int_len(negative, magnitude);
@@ -195,7 +195,7 @@ fn put_int_as(
     out: &mut [u8],
     at: usize,
 ) -> Parsed
-    requires { ⌜ (at ≤ length (now out)) × (length (now out) ≤ 1048576) ⌝ }
+    requires { ⌜ (at ≤ length (now out)) × (length (now out) ≤ 2 ^ 20) ⌝ }
     ensures { λ r. ⌜ Puts (now (out .entry)) (now (out .exit)) at next (written role (int (signed negative magnitude))) true r ⌝ }
 {
     let Role::AsValue = role else {
@@ -214,9 +214,10 @@ fn put_int_as(
 
 // The scalar that a trimmed text says, in its role.
 fn put_scalar(t: &[u8], next: usize, role: Role, out: &mut [u8], at: usize) -> Parsed
-    requires { ⌜ (length (now t) ≤ 65535) × (at ≤ length (now out)) × (length (now out) ≤ 1048576) ⌝ }
+    requires { ⌜ (length (now t) ≤ 65535) × (at ≤ length (now out)) × (length (now out) ≤ 2 ^ 20) ⌝ }
     ensures { λ r. ⌜ ((s : List ℕ) (number : ℕ) → next ≤ length s
-        → Agrees role (scalar (length (now (out .entry))) number role at (scalarOf (now (t .entry))) (drop next s)) s (now (out .entry))
+        → AgreesParsed role (scalar (length (now (out .entry))) number role at (scalarOf (now (t .entry))) (drop next s)) s (now
+        (out .entry))
         (now (out .exit)) at r) ⌝ }
 {
     match kind_of(t) {
@@ -232,8 +233,8 @@ fn put_scalar(t: &[u8], next: usize, role: Role, out: &mut [u8], at: usize) -> P
 
 // A null that nobody wrote.
 pub fn null_at(s: &[u8], next: usize, role: Role, out: &mut [u8], at: usize) -> Parsed
-    requires { ⌜ (next ≤ length (now s)) × (length (now s) ≤ 65535) × (at ≤ length (now out)) × (length (now out) ≤ 1048576) ⌝ }
-    ensures { λ r. ⌜ ((number : ℕ) → Agrees role (scalar (length (now (out .entry))) number role at null (drop next (now (s .entry))))
+    requires { ⌜ (next ≤ length (now s)) × (length (now s) ≤ 65535) × (at ≤ length (now out)) × (length (now out) ≤ 2 ^ 20) ⌝ }
+    ensures { λ r. ⌜ ((number : ℕ) → AgreesParsed role (scalar (length (now (out .entry))) number role at null (drop next (now (s .entry))))
         (now (s .entry)) (now (out .entry)) (now (out .exit)) at r) ⌝ }
 {
     put_null_as(next, role, out, at)
@@ -304,8 +305,9 @@ pub fn plain(
     out: &mut [u8],
     at: usize,
 ) -> Parsed
-    requires { ⌜ (i ≤ length (now s)) × (length (now s) ≤ 65535) × (at ≤ length (now out)) × (length (now out) ≤ 1048576) ⌝ }
-    ensures { λ r. ⌜ Agrees role (read.plain (length (now (out .entry))) line in_flow role at (drop i (now (s .entry)))) (now (s .entry))
+    requires { ⌜ (i ≤ length (now s)) × (length (now s) ≤ 65535) × (at ≤ length (now out)) × (length (now out) ≤ 2 ^ 20) ⌝ }
+    ensures { λ r. ⌜ AgreesParsed role (read.plain (length (now (out .entry))) line in_flow role at (drop i (now (s .entry)))) (now
+        (s .entry))
         (now (out .entry)) (now (out .exit)) at r ⌝ }
 {
     let end = plain_end(s, i, in_flow);

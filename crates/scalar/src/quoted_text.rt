@@ -2,14 +2,14 @@
 ghost use mathlib.Core.Path.{_≡_};
 ghost use mathlib.Core.List.{List};
 ghost use mathlib.Core.Bool.{true, false};
-ghost use Prim.Native.Nat.{ℕ, _+_, _≤_, _<_};
+ghost use Prim.Native.Nat.{ℕ, _+_, _≤_, _<_, _^_};
 ghost use lib.ListN.{length, drop};
 ghost use lib.Seq.{sets};
 ghost use Rattle.refusal.specs.Base.{good};
 ghost use Rattle.scalar.specs.declared.Role.{Role as Roles};
 ghost use Rattle.scalar.specs.Read.{escape, doubleQuoted, singleQuoted, string};
-ghost use Rattle.scalar.specs.Contract.{Agrees};
-ghost use Rattle.scalar.specs.Code.{escapeOf, quotedOf, Steps, Spans};
+ghost use Rattle.scalar.specs.Contract.{AgreesParsed};
+ghost use Rattle.scalar.specs.Code.{escapeOf, quotedOf, AgreesPiece, Spans};
 use super::Parsed;
 use super::Role;
 use item::put_header;
@@ -27,7 +27,7 @@ enum Escape {
 }
 
 // What stands at a place in quotes: a byte of the string, which runs up to `next`, or the closing quote, which stands before `next`.
-enum Step {
+enum Piece {
     Byte { byte: u8, next: usize },
     Shut { next: usize },
     Refused(Refusal),
@@ -53,73 +53,73 @@ fn unescaped(c: u8) -> Escape
 }
 
 // The escape whose `\` stands before `i`.
-fn escape_step(s: &[u8], i: usize, line: u32) -> Step
+fn escape_piece(s: &[u8], i: usize, line: u32) -> Piece
     requires { ⌜ i ≤ length (now s) ⌝ }
-    ensures { λ r. ⌜ ((cap : ℕ) → Steps (doubleQuoted cap line true) (doubleQuoted cap line false) cap line (now (s .entry)) i r) ⌝ }
+    ensures { λ r. ⌜ ((cap : ℕ) → AgreesPiece (doubleQuoted cap line true) (doubleQuoted cap line false) cap line (now (s .entry)) i r) ⌝ }
 {
     if i == s.len() {
-        return Step::Refused(Refusal::EscapeCut { line });
+        return Piece::Refused(Refusal::EscapeCut { line });
     }
     let Escape::Byte(byte) = unescaped(s[i]) else {
-        return Step::Refused(Refusal::UnknownEscape { line });
+        return Piece::Refused(Refusal::UnknownEscape { line });
     };
-    Step::Byte { byte, next: i + 1 }
+    Piece::Byte { byte, next: i + 1 }
 }
 
-fn double_step(s: &[u8], i: usize, line: u32) -> Step
+fn double_piece(s: &[u8], i: usize, line: u32) -> Piece
     requires { ⌜ i ≤ length (now s) ⌝ }
-    ensures { λ r. ⌜ ((cap : ℕ) → Steps (doubleQuoted cap line false) (doubleQuoted cap line false) cap line (now (s .entry)) i r) ⌝ }
+    ensures { λ r. ⌜ ((cap : ℕ) → AgreesPiece (doubleQuoted cap line false) (doubleQuoted cap line false) cap line (now (s .entry)) i r) ⌝ }
 {
     if i == s.len() {
-        return Step::Refused(Refusal::QuoteOpen { line });
+        return Piece::Refused(Refusal::QuoteOpen { line });
     }
     let b = s[i];
     if b == b'"' {
-        return Step::Shut { next: i + 1 };
+        return Piece::Shut { next: i + 1 };
     }
     if b == b'\\' {
-        return escape_step(s, i + 1, line);
+        return escape_piece(s, i + 1, line);
     }
-    Step::Byte {
+    Piece::Byte {
         byte: b,
         next: i + 1,
     }
 }
 
 // Two quotes are one of the string's.
-fn single_step(s: &[u8], i: usize, line: u32) -> Step
+fn single_piece(s: &[u8], i: usize, line: u32) -> Piece
     requires { ⌜ i ≤ length (now s) ⌝ }
-    ensures { λ r. ⌜ ((cap : ℕ) → Steps (singleQuoted cap line false) (singleQuoted cap line false) cap line (now (s .entry)) i r) ⌝ }
+    ensures { λ r. ⌜ ((cap : ℕ) → AgreesPiece (singleQuoted cap line false) (singleQuoted cap line false) cap line (now (s .entry)) i r) ⌝ }
 {
     if i == s.len() {
-        return Step::Refused(Refusal::QuoteOpen { line });
+        return Piece::Refused(Refusal::QuoteOpen { line });
     }
     let b = s[i];
     if b != b'\'' {
-        return Step::Byte {
+        return Piece::Byte {
             byte: b,
             next: i + 1,
         };
     }
     if i + 1 == s.len() {
-        return Step::Shut { next: i + 1 };
+        return Piece::Shut { next: i + 1 };
     }
     if s[i + 1] != b'\'' {
-        return Step::Shut { next: i + 1 };
+        return Piece::Shut { next: i + 1 };
     }
-    Step::Byte {
+    Piece::Byte {
         byte: b'\'',
         next: i + 2,
     }
 }
 
-fn step_at(quote: Quote, s: &[u8], i: usize, line: u32) -> Step
+fn piece_at(quote: Quote, s: &[u8], i: usize, line: u32) -> Piece
     requires { ⌜ i ≤ length (now s) ⌝ }
-    ensures { λ r. ⌜ ((cap : ℕ) → Steps (quotedOf quote cap line) (quotedOf quote cap line) cap line (now (s .entry)) i r) ⌝ }
+    ensures { λ r. ⌜ ((cap : ℕ) → AgreesPiece (quotedOf quote cap line) (quotedOf quote cap line) cap line (now (s .entry)) i r) ⌝ }
 {
     match quote {
-        Quote::Single => single_step(s, i, line),
-        Quote::Double => double_step(s, i, line),
+        Quote::Single => single_piece(s, i, line),
+        Quote::Double => double_piece(s, i, line),
     }
 }
 
@@ -130,13 +130,13 @@ fn span_of(quote: Quote, s: &[u8], i: usize, line: u32) -> Span
     let mut place = i;
     let mut size = 0;
     loop {
-        match step_at(quote, s, place, line) {
-            Step::Byte { byte: _, next } => {
+        match piece_at(quote, s, place, line) {
+            Piece::Byte { byte: _, next } => {
                 place = next;
                 size += 1;
             }
-            Step::Shut { next } => return Span::Ends { next, size },
-            Step::Refused(e) => return Span::Refused(e),
+            Piece::Shut { next } => return Span::Ends { next, size },
+            Piece::Refused(e) => return Span::Refused(e),
         }
     }
 }
@@ -150,7 +150,7 @@ fn put_bytes(quote: Quote, s: &[u8], i: usize, line: u32, size: usize, out: &mut
     let mut place = i;
     let mut done = 0;
     while done < size {
-        let Step::Byte { byte, next } = step_at(quote, s, place, line) else {
+        let Piece::Byte { byte, next } = piece_at(quote, s, place, line) else {
             return;
         };
         out[at + done] = byte;
@@ -160,8 +160,8 @@ fn put_bytes(quote: Quote, s: &[u8], i: usize, line: u32, size: usize, out: &mut
 }
 
 fn quoted(quote: Quote, s: &[u8], i: usize, line: u32, out: &mut [u8], at: usize) -> Parsed
-    requires { ⌜ (i ≤ length (now s)) × (length (now s) ≤ 65535) × (at ≤ length (now out)) × (length (now out) ≤ 1048576) ⌝ }
-    ensures { λ r. ⌜ ((role : Roles) → Agrees role (string (length (now (out .entry))) line role at
+    requires { ⌜ (i ≤ length (now s)) × (length (now s) ≤ 65535) × (at ≤ length (now out)) × (length (now out) ≤ 2 ^ 20) ⌝ }
+    ensures { λ r. ⌜ ((role : Roles) → AgreesParsed role (string (length (now (out .entry))) line role at
         (quotedOf quote (length (now (out .entry))) line (drop i (now (s .entry))))) (now (s .entry)) (now (out .entry)) (now (out .exit))
         at r) ⌝ }
 {
@@ -183,8 +183,8 @@ fn quoted(quote: Quote, s: &[u8], i: usize, line: u32, out: &mut [u8], at: usize
 }
 
 pub fn double_quoted(s: &[u8], i: usize, role: Role, line: u32, out: &mut [u8], at: usize) -> Parsed
-    requires { ⌜ (i ≤ length (now s)) × (length (now s) ≤ 65535) × (at ≤ length (now out)) × (length (now out) ≤ 1048576) ⌝ }
-    ensures { λ r. ⌜ Agrees role (string (length (now (out .entry))) line role at
+    requires { ⌜ (i ≤ length (now s)) × (length (now s) ≤ 65535) × (at ≤ length (now out)) × (length (now out) ≤ 2 ^ 20) ⌝ }
+    ensures { λ r. ⌜ AgreesParsed role (string (length (now (out .entry))) line role at
         (doubleQuoted (length (now (out .entry))) line false (drop i (now (s .entry))))) (now (s .entry)) (now (out .entry))
         (now (out .exit)) at r ⌝ }
 {
@@ -192,8 +192,8 @@ pub fn double_quoted(s: &[u8], i: usize, role: Role, line: u32, out: &mut [u8], 
 }
 
 pub fn single_quoted(s: &[u8], i: usize, role: Role, line: u32, out: &mut [u8], at: usize) -> Parsed
-    requires { ⌜ (i ≤ length (now s)) × (length (now s) ≤ 65535) × (at ≤ length (now out)) × (length (now out) ≤ 1048576) ⌝ }
-    ensures { λ r. ⌜ Agrees role (string (length (now (out .entry))) line role at
+    requires { ⌜ (i ≤ length (now s)) × (length (now s) ≤ 65535) × (at ≤ length (now out)) × (length (now out) ≤ 2 ^ 20) ⌝ }
+    ensures { λ r. ⌜ AgreesParsed role (string (length (now (out .entry))) line role at
         (singleQuoted (length (now (out .entry))) line false (drop i (now (s .entry))))) (now (s .entry)) (now (out .entry))
         (now (out .exit)) at r ⌝ }
 {

@@ -1,6 +1,6 @@
 -- However much work is lent, a text that is read has one tree. Assumes nothing.
 use mathlib.Core.Path.{_≡_, refl, sym, ap, _∙_, subst}
-use Prim.Native.Nat.{ℕ, zero, suc, _+_, min}
+use Prim.Native.Nat.{ℕ, zero, suc, _+_, min, _^_}
 use mathlib.Core.List.{List, [], _∷_}
 use mathlib.Core.Bool.{Bool, true, false, _&&_, _||_, not}
 use mathlib.Core.Option.{Option, none, some, Option·some-injective, Option·none-ne-some}
@@ -329,6 +329,6 @@ module _ (cap cap′ : ℕ) where
   treeOfs ls = binds _ _ _ _ (withins 32 .block 0 ls) λ x. itself _
 
 -- the trees of a text for which two sizes of work are lent
-pub trees : (work work′ : ℕ) (keyText : List ℕ) → Agree (tree work keyText) (tree work′ keyText)
+pub trees : (work work′ : ℕ) (text : List ℕ) → Agree (tree work text) (tree work′ text)
 unfolding tree
-trees work work′ keyText = thens _ _ _ _ (itself (admitted keyText)) (binds _ _ _ _ (itself (significantLines keyText)) λ ls. treeOfs (min work 1048576) (min work′ 1048576) ls)
+trees work work′ text = thens _ _ _ _ (itself (admitted text)) (binds _ _ _ _ (itself (significantLines text)) λ ls. treeOfs (min work (2 ^ 20)) (min work′ (2 ^ 20)) ls)

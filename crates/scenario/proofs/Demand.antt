@@ -1,6 +1,6 @@
 -- Demand 3 over the definitions: of accepted texts, records and meanings tell each other, and lookups give a meaning back. Assumes nothing.
 use mathlib.Core.Path.{_≡_, refl, sym, ap, _∙_, subst}
-use Prim.Native.Nat.{ℕ, suc, _≤_, _<_, min}
+use Prim.Native.Nat.{ℕ, suc, _≤_, _<_, min, _^_}
 use native.Mathlib.Omega.{arith}
 use mathlib.Core.List.{List, [], _∷_, map}
 use mathlib.Core.Option.{some}
@@ -48,7 +48,7 @@ pub reading-parts : (work : ℕ) (text : List ℕ) (r : Reading) → readingOf w
 unfolding readingOf tree _>>_ _>>=_
 reading-parts work text r e = bound (admitted text) _ r e
     λ u a p. bound (significantLines text) _ r p
-    λ ls l p. bound (treeOf (min work 1048576) ls) _ r p
+    λ ls l p. bound (treeOf (min work (2 ^ 20)) ls) _ r p
     λ y t p. bound (meaningOf (stepLines ls) y) _ r p
     λ m k p. subst (Parts work text) (good-inj _ _ p) (record {
       lines = ls;
@@ -62,8 +62,8 @@ reading-parts work text r e = bound (admitted text) _ r e
 
 pub record Accepted (work room places : ℕ) (text : List ℕ) (r : Reading) : Type 0 where
   pub reading : readingOf work text ≡ good r
-  pub few : length (r .meaning .steps) ≤ min places 262144
-  pub small : length (recordOf (r .meaning)) ≤ min room 1048576
+  pub few : length (r .meaning .steps) ≤ min places (2 ^ 18)
+  pub small : length (recordOf (r .meaning)) ≤ min room (2 ^ 20)
 
 lines-long : (ss : List Step) (lines : List ℕ) → length (linesFor ss lines) ≡ length ss
 unfolding linesFor
@@ -79,8 +79,8 @@ module _ (work room places : ℕ) (text : List ℕ) (r : Reading) (e : scenario 
   pub accepted : Accepted work room places text r
   unfolding scenario _>>_
   accepted = bound (readingOf work text) _ r e
-      λ x a p. bound (ensure (leb (length (x .meaning .steps)) (min places 262144)) 51 0 0) _ r p
-      λ u b p. bound (ensure (leb (length (recordOf (x .meaning))) (min room 1048576)) 52 0 0) _ r p
+      λ x a p. bound (ensure (leb (length (x .meaning .steps)) (min places (2 ^ 18))) 51 0 0) _ r p
+      λ u b p. bound (ensure (leb (length (recordOf (x .meaning))) (min room (2 ^ 20))) 52 0 0) _ r p
       λ v c p. subst (Accepted work room places text) (good-inj _ _ p) (record {
         reading = a;
         few = leb-true _ _ (ensured _ 51 0 0 u b);
@@ -148,7 +148,7 @@ units a b = record { alike = λ x y p q. refl }
 readings : (work work′ : ℕ) (text : List ℕ) → Agree (readingOf work text) (readingOf work′ text)
 unfolding readingOf
 readings work work′ text = thens _ _ _ _ (itself (admitted text)) (binds _ _ _ _ (itself (significantLines text))
-    λ ls. binds _ _ _ _ (treeOfs (min work 1048576) (min work′ 1048576) ls) λ y. itself _)
+    λ ls. binds _ _ _ _ (treeOfs (min work (2 ^ 20)) (min work′ (2 ^ 20)) ls) λ y. itself _)
 
 -- what is lent decides whether a text is accepted, never what is read
 pub same-reading : (work room places work′ room′ places′ : ℕ) (text : List ℕ) (r r′ : Reading) → scenario work room places text ≡ good r → scenario work′ room′ places′ text ≡ good r′ → r ≡ r′

@@ -5,24 +5,25 @@ use Prim.Native.String.{String}
 use mathlib.Core.List.{List, [], _∷_, map}
 use mathlib.Core.Bool.{true}
 use lib.ListN.{length}
-use Rattle.refusal.specs.Base.{Answer, good, refused, _>>=_, bytes, same, Base-open}
-use Rattle.utf8.specs.Utf8.{Utf8-open}
-use Rattle.utf8.specs.White.{White-open}
-use Rattle.item.specs.Tree as Item
-use Rattle.item.specs.Encode.{encode, Encode-open}
-use Rattle.lines.specs.Lines.{Lines-open}
-use Rattle.scalar.specs.Scalars.{Scalars-open}
-use Rattle.scalar.specs.Key.{Key-open}
-use Rattle.scalar.specs.Read.{Read-open}
-use Rattle.flow.specs.Flow.{Flow-open}
-use Rattle.literal.specs.Literal.{Literal-open}
-use Rattle.block.specs.Block.{Block-open}
-use Rattle.tree.specs.Tree.{Tree-open}
+use Rattle.refusal.specs.Base.{Answer, good, refused, _>>=_, bytes, same}
+use Rattle.refusal.proofs.Open.{Base-open}
+use Rattle.utf8.proofs.Open.{Utf8-open, White-open}
+use Rattle.item.proofs.Open as Item
+use Rattle.item.specs.Encode.{encode}
+use Rattle.item.proofs.Open.{Encode-open}
+use Rattle.lines.proofs.Open.{Lines-open}
+use Rattle.scalar.proofs.Open.{Scalars-open, Key-open, Read-open}
+use Rattle.flow.proofs.Open.{Flow-open}
+use Rattle.literal.proofs.Open.{Literal-open}
+use Rattle.block.proofs.Open.{Block-open}
+use Rattle.tree.proofs.Open.{Tree-open}
 use Rattle.meaning.specs.Meaning.{Step, stepFields, builtInSteps}
-use Rattle.meaning.specs.Record.{recordOf, Record-open}
-use Rattle.step_lines.specs.StepLines.{headLine, tailLines, StepLines-open}
-use Rattle.meaning.specs.Meanings.{Meanings-open}
-use Rattle.scenario.specs.Scenario.{Reading, scenario, Scenario-open}
+use Rattle.meaning.specs.Record.{recordOf}
+use Rattle.meaning.proofs.Open.{Record-open, Meanings-open}
+use Rattle.step_lines.specs.StepLines.{headLine, tailLines}
+use Rattle.step_lines.proofs.Open.{StepLines-open}
+use Rattle.scenario.specs.Scenario.{Reading, scenario}
+use Rattle.scenario.proofs.Open.{Scenario-open}
 
 -- what `drumread` prints of a scenario: record bytes, tree bytes, steps; for each step its line and its command key's bytes
 abbrev pub Print : Type 0

@@ -2,7 +2,7 @@
 use mathlib.Core.Path.{_≡_, refl, sym, ap, subst, _∙_}
 use Prim.Native.Nat.{ℕ, suc, _+_, _-_, _≤_, _<_}
 use native.Mathlib.Omega.{arith}
-use mathlib.Core.List.{List, [], _∷_, _++_, map, append-assoc, append-nil}
+use mathlib.Core.List.{List, [], _∷_, _++_, map, append-assoc, append-nil, map-append}
 use lib.ListN.{length, drop, set, length-append}
 use lib.Seq.{sets}
 use Rattle.refusal.specs.Base.{Answer, good, refused, _>>=_}
@@ -14,6 +14,7 @@ use Rattle.lines.specs.Lines.{Line}
 use Rattle.meaning.specs.Meaning.{Step}
 use Rattle.meaning.specs.Record.{joined, stepItem, stepsItem}
 use Rattle.meaning.specs.Meanings.{stepAt, stepsFrom}
+use Rattle.meaning.proofs.Joined.{joined-last}
 use Rattle.step_lines.specs.StepLines.{dashesAt, tailLines}
 use Rattle.step_lines.specs.declared.StepLine.{StepLine}
 use Rattle.step_lines.specs.Contract.{Next}
@@ -34,9 +35,7 @@ one-more (good ss) got s = ap good (sym (append-assoc got (s ∷ []) ss))
 one-more (refused k l n) got s = refl
 
 joined-more : (got : List Step) (s : Step) → joined (map stepItem got) ++ stepItem s ≡ joined (map stepItem (got ++ (s ∷ [])))
-unfolding joined
-joined-more [] s = sym (append-nil (stepItem s))
-joined-more (g ∷ got) s = append-assoc (stepItem g) (joined (map stepItem got)) (stepItem s) ∙ ap (λ (b : List ℕ). stepItem g ++ b) (joined-more got s)
+joined-more got s = sym (ap joined (map-append stepItem got (s ∷ [])) ∙ joined-last (map stepItem got) (stepItem s))
 
 placed : {old new : List ℕ} {i n : ℕ} → (i < length old → new ≡ set old i n) → length new ≡ length old → Stored old new i (n ∷ []) (i + 1)
 placed {old} {new} {i} {n} h k = record { ends = omega arith; stored = λ m. h (omega arith); kept = k }
@@ -73,7 +72,9 @@ walk-start {first = first} ys e h = record {
   many = refl;
 }
 
-module _ {s first old mid places filled : List ℕ} {to i start p steps count indent d next : ℕ} {ys : Items} {ls : List Line} {l : StepLine} (k : Walked s to i ys first (dashesAt indent (drop d ls)) old mid start p places filled steps) (n : Next ls count indent d l) (t : ItemTurn s i to (k .rest) next) where
+module _ {s first old mid places filled : List ℕ} {to i start p steps count indent d next : ℕ} {ys : Items} {ls : List Line} {l : StepLine}
+    (k : Walked s to i ys first (dashesAt indent (drop d ls)) old mid start p places filled steps) (n : Next ls count indent d l)
+    (t : ItemTurn s i to (k .rest) next) where
   abbrev dashes : List ℕ
   dashes = dashesAt indent (drop d ls)
 
@@ -103,7 +104,10 @@ module _ {s first old mid places filled : List ℕ} {to i start p steps count in
   unfolding _>>=_
   walk-refused new q promise = turn ∙ ap behind (this new q promise)
 
-  pub walk-on : {new lines : List ℕ} {q : ℕ} {r : Part} → r ≡ Done q → ((y : Yaml) → Ranged y → Stands s i (encode y) → AgreesPart (stepAt (l .line) (steps + 1) y) stepItem mid new p r) → (steps < length filled → lines ≡ set filled steps (l .line)) → length lines ≡ length filled → Walked s to next ys first (dashesAt indent (drop (l .next) ls)) old new start q places lines (steps + 1)
+  pub walk-on : {new lines : List ℕ} {q : ℕ} {r : Part} → r ≡ Done q
+      → ((y : Yaml) → Ranged y → Stands s i (encode y) → AgreesPart (stepAt (l .line) (steps + 1) y) stepItem mid new p r)
+      → (steps < length filled → lines ≡ set filled steps (l .line)) → length lines ≡ length filled
+      → Walked s to next ys first (dashesAt indent (drop (l .next) ls)) old new start q places lines (steps + 1)
   unfolding _>>=_ linesFor
   walk-on {new} q promise put kept =
       let w = this new q promise in
@@ -129,7 +133,9 @@ module _ {s first old mid places filled : List ℕ} {to i start p steps count in
         many = omega (arith, k .many, length-append (k .got) (w .read ∷ []));
       }
 
-pub walk-done : {s first dashes old mid new places filled : List ℕ} {to i at p steps : ℕ} {ys : Items} → to ≤ i → Walked s to i ys first dashes old mid (at + 6) p places filled steps → (p ≤ length mid → new ≡ sets mid at (head 18 (p - at - 6))) → length new ≡ length mid → WroteSteps (stepsFrom 1 first ys) stepsItem (λ ss. ss) first old new at places filled p steps
+pub walk-done : {s first dashes old mid new places filled : List ℕ} {to i at p steps : ℕ} {ys : Items} → to ≤ i
+    → Walked s to i ys first dashes old mid (at + 6) p places filled steps → (p ≤ length mid → new ≡ sets mid at (head 18 (p - at - 6)))
+    → length new ≡ length mid → WroteSteps (stepsFrom 1 first ys) stepsItem (λ ss. ss) first old new at places filled p steps
 unfolding stepsFrom stepsItem linesFor _>>=_
 walk-done {first = first} {dashes = dashes} {steps = steps} m k g l = record {
   read = k .got;

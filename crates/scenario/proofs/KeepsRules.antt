@@ -8,7 +8,7 @@ use mathlib.Core.Option.{Option, none, some}
 use lib.ListN.{length}
 use lib.Signed.{mag}
 use borrow.Author.Tests.{lt-ltb}
-use Rattle.refusal.specs.Base.{good, _>>_, ensure, given, maybe, bytes, same, oneOf}
+use Rattle.refusal.specs.Base.{good, _>>_, ensure, given, maybe, bytes, same, oneOf, limit}
 use Rattle.refusal.proofs.Tools.{good-inj, refused≢good, bound, bound′, chosen, gave}
 use Rattle.utf8.proofs.Utf8Laws.{utf8-nil}
 use Rattle.item.specs.Tree.{Shape, Node, Yaml, null, bool, int, str, seq, dict, Items, end, _▸_, Entries, done, pair, levels, get, Ranged}
@@ -21,7 +21,7 @@ use Rattle.tree.proofs.Sound.{Sound}
 use Rattle.meaning.specs.Sound.{sound}
 use Rattle.meaning.specs.Meaning.{Defaults, Step, Meaning, stepFields, builtInSteps}
 use Rattle.meaning.specs.Record.{optional, expected, recordOf}
-use Rattle.meaning.specs.Rules.{Each, limit, StepRules, Rules}
+use Rattle.meaning.specs.Rules.{Each, StepRules, Rules}
 use Rattle.step_lines.specs.StepLines.{headLine, tailLines}
 use Rattle.meaning.specs.Meanings.{document, knownKeys, scalarAt, orEmpty, checkSchema, sequenceOr, consText, textsOf, scalarDefault, defaultsFrom, noDefaults, defaultsOf, expectOf, commands, commandOf, expectAllowed, stepOf, stepAt, stepsFrom, Top, topOf, withSteps, meaningOf}
 

@@ -7,3 +7,4 @@ pub mod Demand
 pub mod ReadScenario
 pub mod Starred
 pub mod Examples
+pub mod Open

@@ -1,6 +1,6 @@
 -- What each step of reading a scenario comes to. Assumes nothing.
 use mathlib.Core.Path.{_≡_, refl, sym, ap, _∙_, subst}
-use Prim.Native.Nat.{ℕ, _+_, _*_, _≤_, _<_, min}
+use Prim.Native.Nat.{ℕ, _+_, _*_, _≤_, _<_, min, _^_}
 use native.Mathlib.Omega.{arith}
 use mathlib.Core.List.{List, _++_, append-assoc}
 use lib.ListN.{length, take, drop, replicate, length-append, length-drop, take-append-drop}
@@ -81,19 +81,19 @@ module _ (work room places : ℕ) (text : List ℕ) where
   unfolding tree readingOf
   scenario-untree z e =
       unread (toldOf z .number) (toldOf z .line) (toldOf z .step)
-      (untree (admitted text) (significantLines text) (treeOf (min work 1048576))
+      (untree (admitted text) (significantLines text) (treeOf (min work (2 ^ 20)))
       (λ ls y. meaningOf (stepLines ls) y >>= λ m. good (record { tree = y; meaning = m; lines = linesFor (m .steps) (stepLines ls) }))
       (toldOf z .number) (toldOf z .line) (toldOf z .step) e)
 
   module _ (ls : List Line) (y : Yaml) (l : significantLines text ≡ good ls) (t : tree work text ≡ good y) where
-    reading-by : (u : Unit {0}) → admitted text ≡ good u → treeOf (min work 1048576) ls ≡ good y
+    reading-by : (u : Unit {0}) → admitted text ≡ good u → treeOf (min work (2 ^ 20)) ls ≡ good y
         → readingOf work text ≡ (meaningOf (stepLines ls) y >>= λ m. good (record { tree = y; meaning = m; lines = linesFor (m .steps) (stepLines ls) }))
     unfolding readingOf _>>_ _>>=_
     reading-by u a q = rw (a, l, q)
 
     reading-is : readingOf work text ≡ (meaningOf (stepLines ls) y >>= λ m. good (record { tree = y; meaning = m; lines = linesFor (m .steps) (stepLines ls) }))
     unfolding tree _>>_ treeOf _>>=_
-    reading-is = bound (admitted text) _ y t λ u a p. reading-by u a (sym (ap (λ (b : Answer (List Line)). b >>= treeOf (min work 1048576)) l) ∙ p)
+    reading-is = bound (admitted text) _ y t λ u a p. reading-by u a (sym (ap (λ (b : Answer (List Line)). b >>= treeOf (min work (2 ^ 20))) l) ∙ p)
 
     pub scenario-unread : (z : Refusal) → meaningOf (stepLines ls) y ≡ refusal z → it ≡ refusal z
     unfolding _>>=_
@@ -107,28 +107,28 @@ module _ (work room places : ℕ) (text : List ℕ) where
       unfolding _>>=_
       made-is = reading-is ∙ rw e
 
-      pub scenario-few : places ≤ 262144 → places < length (m .steps) → it ≡ refused 51 0 0
+      pub scenario-few : places ≤ 2 ^ 18 → places < length (m .steps) → it ≡ refused 51 0 0
       unfolding scenario _>>=_ _>>_ ensure
-      scenario-few p h = let k : min places 262144 ≡ places = omega arith in rw (made-is, k, lt-leb (length (m .steps)) places h)
+      scenario-few p h = let k : min places (2 ^ 18) ≡ places = omega arith in rw (made-is, k, lt-leb (length (m .steps)) places h)
 
-      module _ (p : places ≤ 262144) (h : length (m .steps) ≤ places) (r : room ≤ 1048576) where
+      module _ (p : places ≤ 2 ^ 18) (h : length (m .steps) ≤ places) (r : room ≤ 2 ^ 20) where
         pub scenario-long : room < length (recordOf m) → it ≡ refused 52 0 0
         unfolding scenario _>>=_ _>>_ ensure
         scenario-long q =
-            let k : min places 262144 ≡ places = omega arith in
-            let j : min room 1048576 ≡ room = omega arith in
+            let k : min places (2 ^ 18) ≡ places = omega arith in
+            let j : min room (2 ^ 20) ≡ room = omega arith in
             rw (made-is, k, le-leb (length (m .steps)) places h, j, lt-leb (length (recordOf m)) room q)
 
         pub scenario-read : length (recordOf m) ≤ room → it ≡ good made
         unfolding scenario _>>=_ _>>_ ensure
         scenario-read q =
-            let k : min places 262144 ≡ places = omega arith in
-            let j : min room 1048576 ≡ room = omega arith in
+            let k : min places (2 ^ 18) ≡ places = omega arith in
+            let j : min room (2 ^ 20) ≡ room = omega arith in
             rw (made-is, k, le-leb (length (m .steps)) places h, j, le-leb (length (recordOf m)) room q)
 
 -- a reading whose outputs all fit
 pub wrote-all : (text work tree′ room bytes places lines : List ℕ) (ls : List Line) (t e n : ℕ) (answer : Answer Yaml) (w : WroteTree answer work tree′ t)
-    → answer ≡ tree (length work) text → significantLines text ≡ good ls → length room ≤ 1048576 → length places ≤ 262144
+    → answer ≡ tree (length work) text → significantLines text ≡ good ls → length room ≤ 2 ^ 20 → length places ≤ 2 ^ 18
     → (v : WroteSteps (meaningOf (stepLines ls) (w .tree)) recordOf (λ m. m .steps) (stepLines ls) room bytes 0 places lines e n) → n ≤ length places → e ≤ length room
     → WroteScenario (scenario (length work) (length room) (length places) text) work tree′ room bytes places lines t e (4 * n) n
 wrote-all text work tree′ room bytes places lines ls t e n answer w a l r p v h k =
@@ -152,16 +152,16 @@ wrote-all text work tree′ room bytes places lines ls t e n answer w a l r p v 
 -- ---- the lent outputs, of which the first places count
 
 -- what counts of each is lent
-pub same-lent : (text work room places : List ℕ) (w r p : ℕ) → w ≡ min (length work) 1048576 → r ≡ min (length room) 1048576 → p ≡ min (length places) 262144
+pub same-lent : (text work room places : List ℕ) (w r p : ℕ) → w ≡ min (length work) (2 ^ 20) → r ≡ min (length room) (2 ^ 20) → p ≡ min (length places) (2 ^ 18)
     → scenario (length (take w work)) (length (take r room)) (length (take p places)) text ≡ scenario (length work) (length room) (length places) text
 unfolding scenario readingOf
 same-lent text work room places w r p a b c =
-    let i : min (length (take w work)) 1048576 ≡ min (length work) 1048576 = omega (arith, length-take-le w work (omega arith)) in
-    let j : min (length (take r room)) 1048576 ≡ min (length room) 1048576 = omega (arith, length-take-le r room (omega arith)) in
-    let k : min (length (take p places)) 262144 ≡ min (length places) 262144 = omega (arith, length-take-le p places (omega arith)) in
+    let i : min (length (take w work)) (2 ^ 20) ≡ min (length work) (2 ^ 20) = omega (arith, length-take-le w work (omega arith)) in
+    let j : min (length (take r room)) (2 ^ 20) ≡ min (length room) (2 ^ 20) = omega (arith, length-take-le r room (omega arith)) in
+    let k : min (length (take p places)) (2 ^ 18) ≡ min (length places) (2 ^ 18) = omega (arith, length-take-le p places (omega arith)) in
     rw (i, j, k)
 
-pub lent-is : (text work tree′ room bytes places lines : List ℕ) (w r p : ℕ) → w ≡ min (length work) 1048576 → r ≡ min (length room) 1048576 → p ≡ min (length places) 262144
+pub lent-is : (text work tree′ room bytes places lines : List ℕ) (w r p : ℕ) → w ≡ min (length work) (2 ^ 20) → r ≡ min (length room) (2 ^ 20) → p ≡ min (length places) (2 ^ 18)
     → (a : ScenarioAnswer) → AgreesScenario (scenario (length (take w work)) (length (take r room)) (length (take p places)) text) (take w work) tree′ (take r room) bytes (take p places) lines a
     → AgreesScenario (scenario (length work) (length room) (length places) text) (take w work) tree′ (take r room) bytes (take p places) lines a
 lent-is text work tree′ room bytes places lines w r p i j k a v =
@@ -188,7 +188,9 @@ module _ (x : Answer Reading) (work tree′ room bytes places lines : List ℕ) 
   told-is = go a v
     where
       go : (c : ScenarioAnswer) → AgreesScenario x (take w work) tree′ (take r room) bytes (take p places) lines c → answerOf c ≡ sizesOf x
-      go (Read t e l n) q = rw (q .is, q .lines-size, q .tree-size, q .record-size) (ap (λ (k : ℕ). good (length (encode (q .read .tree)), length (recordOf (q .read .meaning)), 4 * k, n)) (q .lines-many) ∙ ap (λ (k : ℕ). good (length (encode (q .read .tree)), length (recordOf (q .read .meaning)), 4 * length (q .read .lines), k)) (q .steps-many))
+      go (Read t e l n) q = rw (q .is, q .lines-size, q .tree-size, q .record-size)
+          (ap (λ (k : ℕ). good (length (encode (q .read .tree)), length (recordOf (q .read .meaning)), 4 * k, n)) (q .lines-many)
+          ∙ ap (λ (k : ℕ). good (length (encode (q .read .tree)), length (recordOf (q .read .meaning)), 4 * length (q .read .lines), k)) (q .steps-many))
       go (Unread z) q = rw q
 
   module _ (t e l n : ℕ) (q : a ≡ Read t e l n) where

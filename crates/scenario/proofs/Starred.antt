@@ -4,22 +4,22 @@ use Prim.Native.Nat.{ℕ}
 use Prim.Native.String.{String}
 use mathlib.Core.List.{List, [], _∷_, map}
 use lib.IntN.{pos, negsuc}
-use Rattle.refusal.specs.Base.{Answer, good, refused, bytes, Base-open}
-use Rattle.utf8.specs.Utf8.{Utf8-open}
-use Rattle.utf8.specs.White.{White-open}
+use Rattle.refusal.specs.Base.{Answer, good, refused, bytes}
+use Rattle.refusal.proofs.Open.{Base-open}
+use Rattle.utf8.proofs.Open.{Utf8-open, White-open}
 use Rattle.item.specs.Tree.{Yaml, null, int, str, seq, dict, end, _▸_, done, pair}
-use Rattle.item.specs.Tree as Item
-use Rattle.lines.specs.Lines.{Lines-open}
-use Rattle.scalar.specs.Scalars.{Scalars-open}
-use Rattle.scalar.specs.Key.{Key-open}
-use Rattle.scalar.specs.Read.{Read-open}
-use Rattle.flow.specs.Flow.{Flow-open}
-use Rattle.literal.specs.Literal.{Literal-open}
-use Rattle.block.specs.Block.{Block-open}
-use Rattle.tree.specs.Tree.{tree, Tree-open}
-use Rattle.step_lines.specs.StepLines.{StepLines-open}
-use Rattle.meaning.specs.Meanings.{Meanings-open}
-use Rattle.scenario.specs.Scenario.{scenario, Scenario-open, sizesOf}
+use Rattle.item.proofs.Open as Item
+use Rattle.lines.proofs.Open.{Lines-open}
+use Rattle.scalar.proofs.Open.{Scalars-open, Key-open, Read-open}
+use Rattle.flow.proofs.Open.{Flow-open}
+use Rattle.literal.proofs.Open.{Literal-open}
+use Rattle.block.proofs.Open.{Block-open}
+use Rattle.tree.specs.Tree.{tree}
+use Rattle.tree.proofs.Open.{Tree-open}
+use Rattle.step_lines.proofs.Open.{StepLines-open}
+use Rattle.meaning.proofs.Open.{Meanings-open}
+use Rattle.scenario.specs.Scenario.{scenario, sizesOf}
+use Rattle.scenario.proofs.Open.{Scenario-open}
 
 -- a text, and what a job reads from it or tells of it, lent 65,536 bytes of each output and 512 line places
 pub data Case : Type 0 where

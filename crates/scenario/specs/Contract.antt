@@ -1,4 +1,6 @@
--- What the writers of a record promise. Assumes nothing.
+-- Sections 4 and 5 of document 01, for the contracts inside the crate: what the writers of a record promise. Uses Base and Told of
+-- `refusal`; Encode of `item`; Table of `lines`; StepLines of `step_lines`; Meaning and Record of `meaning`; Contract of `nodes`; Scenario
+-- of this crate. Assumes nothing.
 use mathlib.Core.Path.{_≡_}
 use Prim.Native.Nat.{ℕ, _+_, _*_, _≤_}
 use mathlib.Core.List.{List}

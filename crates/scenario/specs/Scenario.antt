@@ -1,9 +1,11 @@
--- The scenario of a whole text: its tree, its meaning and the lines of its steps (`step_lines`), or its refusal. Assumes nothing.
-use Prim.Native.Nat.{ℕ, _*_, min}
+-- Sections 1 to 5 of document 01 in their order: the scenario of a whole text, its tree, its meaning and the lines of its steps, or its
+-- refusal. Uses Base and Told of `refusal`; Tree and Encode of `item`; Lines of `lines`; Tree of `tree`; StepLines of `step_lines`;
+-- Meaning, Record and Meanings of `meaning`. Assumes nothing.
+use Prim.Native.Nat.{ℕ, _*_, _/_, min}
 use mathlib.Core.List.{List, [], _∷_, _++_}
 use lib.Dec.{leb}
 use lib.ListN.{length, drop, replicate}
-use Rattle.refusal.specs.Base.{Answer, good, refused, _>>=_, _>>_, ensure}
+use Rattle.refusal.specs.Base.{Answer, good, refused, _>>=_, _>>_, ensure, limit}
 use Rattle.item.specs.Tree.{Yaml}
 use Rattle.item.specs.Encode.{encode}
 use Rattle.lines.specs.Lines.{significantLines}
@@ -33,7 +35,7 @@ unfoldable pub readingOf : ℕ → List ℕ → Answer Reading
 readingOf work text = do
   admitted text
   ls ← significantLines text
-  y ← treeOf (min work 1048576) ls
+  y ← treeOf (min work limit) ls
   m ← meaningOf (stepLines ls) y
   good (record { tree = y; meaning = m; lines = linesFor (m .steps) (stepLines ls) })
 
@@ -41,8 +43,8 @@ readingOf work text = do
 unfoldable pub scenario : ℕ → ℕ → ℕ → List ℕ → Answer Reading
 scenario work room places text = do
   r ← readingOf work text
-  ensure (leb (length (r .meaning .steps)) (min places 262144)) 51 0 0
-  ensure (leb (length (recordOf (r .meaning))) (min room 1048576)) 52 0 0
+  ensure (leb (length (r .meaning .steps)) (min places (limit / 4))) 51 0 0
+  ensure (leb (length (recordOf (r .meaning))) (min room limit)) 52 0 0
   good r
 
 -- the same of what is lent
@@ -72,7 +74,3 @@ answerOf (Unread e) = refusal e
 unfoldable pub sizesOf : Answer Reading → Answer (ℕ × ℕ × ℕ × ℕ)
 sizesOf (good r) = good (length (encode (r .tree)), length (recordOf (r .meaning)), 4 * length (r .lines), length (r .meaning .steps))
 sizesOf (refused k l s) = refused k l s
-
-unfoldable pub Scenario-open : Unit {0}
-unfolding linesFor readingOf scenario output treeBytes recordBytes stepNumbers sizesOf
-Scenario-open = tt

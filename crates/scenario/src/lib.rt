@@ -1,7 +1,7 @@
 // The main job: the scenario of a text, its record and the lines of its steps (document 01, sections 4 and 5). A tree is read where
 // it stands in its bytes. The record is written from the front as far as it fits and summed beyond that, so that one walk serves.
 ghost use mathlib.Core.Path.{_≡_};
-ghost use Prim.Native.Nat.{_≤_, _<_, min};
+ghost use Prim.Native.Nat.{_≤_, _<_, _^_};
 ghost use lib.ListN.{length, set};
 ghost use Rattle.item.specs.Tree.{Yaml, Items, Ranged};
 ghost use Rattle.item.specs.Encode.{encode};
@@ -14,8 +14,10 @@ ghost use Rattle.scenario.specs.Scenario.{scenarioOf, output, treeBytes,
 ghost use Rattle.scenario.specs.Contract.{WritesSteps, StepsNear, AgreesScenario};
 use entries::Span;
 use entries::item_at;
+use item::LIMIT;
 use item::zero_bytes;
 use item::zero_numbers;
+use lines::TABLE;
 use nodes::Part;
 use nodes::close;
 use refusal::Refusal;
@@ -27,6 +29,7 @@ use top::TopRead;
 use top::put_top;
 use top::read_top;
 use tree::TreeRead;
+use tree::counted;
 use tree::read_with;
 
 // What writing steps answers: where they end, and how many there are.
@@ -67,8 +70,8 @@ fn put_steps(
     at: usize,
     lines: &mut [u32],
 ) -> Steps
-    requires { ⌜ RangeInside (now s) range × (length (now s) ≤ 1048576) × Ready (now text) (now table) count × (at ≤ 562949953421312)
-        × (length (now out) ≤ 1048576) ⌝ }
+    requires { ⌜ RangeInside (now s) range × (length (now s) ≤ 2 ^ 20) × Ready (now text) (now table) count × (at ≤ 2 ^ 49)
+        × (length (now out) ≤ 2 ^ 20) ⌝ }
     ensures { λ r. ⌜ StepsNear (now (out .entry)) (now (out .exit)) at (now (lines .entry)) (now (lines .exit)) r ⌝ }
     ensures steps { λ r. ⌜ ((ys : Items) → Holds (now (s .entry)) (range .from) (range .to) ys
         → WritesSteps (λ lines. stepsFrom 1 lines ys) stepsItem (λ ss. ss) (now (text .entry)) (now (table .entry)) count
@@ -115,7 +118,7 @@ fn put_record(
     out: &mut [u8],
     lines: &mut [u32],
 ) -> Steps
-    requires { ⌜ (length (now s) ≤ 1048576) × Ready (now text) (now table) count × (length (now out) ≤ 1048576) ⌝ }
+    requires { ⌜ (length (now s) ≤ 2 ^ 20) × Ready (now text) (now table) count × (length (now out) ≤ 2 ^ 20) ⌝ }
     ensures { λ r. ⌜ StepsNear (now (out .entry)) (now (out .exit)) 0 (now (lines .entry)) (now (lines .exit)) r ⌝ }
     ensures whole { λ r. ⌜ ((y : Yaml) → Ranged y → Stands (now (s .entry)) 0 (encode y)
         → WritesSteps (λ lines. meaningOf lines y) recordOf (λ m. m .steps) (now (text .entry)) (now (table .entry)) count
@@ -139,12 +142,12 @@ fn put_record(
 
 fn read(
     text: &[u8],
-    table: &mut [u16; 8192],
+    table: &mut [u16; TABLE],
     work: &mut [u8],
     record: &mut [u8],
     lines: &mut [u32],
 ) -> ScenarioAnswer
-    requires { ⌜ (length (now work) ≤ 1048576) × (length (now «record») ≤ 1048576) × (length (now lines) ≤ 262144) ⌝ }
+    requires { ⌜ (length (now work) ≤ 2 ^ 20) × (length (now «record») ≤ 2 ^ 20) × (length (now lines) ≤ 2 ^ 18) ⌝ }
     ensures { λ r. ⌜ AgreesScenario (scenarioOf (now (work .entry)) (now («record» .entry)) (now (lines .entry)) (now (text .entry)))
         (now (work .entry)) (now (work .exit)) (now («record» .entry)) (now («record» .exit)) (now (lines .entry)) (now (lines .exit))
         r ⌝ }
@@ -173,16 +176,6 @@ fn read(
     }
 }
 
-// How many places of a lent output count.
-fn counted(len: usize, most: usize) -> usize
-    ensures { λ r. ⌜ r ≡ min len most ⌝ }
-{
-    if len > most {
-        return most;
-    }
-    len
-}
-
 // The scenario of a text: its tree is left in `work`, its record written from the front of `record`, the lines of its steps from the
 // front of `lines`. A refusal leaves zeros in all three.
 pub fn read_scenario(
@@ -200,10 +193,10 @@ pub fn read_scenario(
     ensures numbers { λ r. ⌜ now (lines .exit) ≡ output stepNumbers
         (scenarioOf (now (work .entry)) (now («record» .entry)) (now (lines .entry)) (now (text .entry))) (now (lines .entry)) ⌝ }
 {
-    let mut table = [0u16; 8192];
-    let w = counted(work.len(), 1048576);
-    let r = counted(record.len(), 1048576);
-    let l = counted(lines.len(), 262144);
+    let mut table = [0u16; TABLE];
+    let w = counted(work.len(), LIMIT);
+    let r = counted(record.len(), LIMIT);
+    let l = counted(lines.len(), LIMIT / 4);
     match read(
         text,
         &mut table,

@@ -11,7 +11,7 @@ use Rattle.item.specs.Encode.{item, encode}
 use Rattle.item.specs.declared.Found.{Found}
 use Rattle.item.specs.declared.Found.the-variants as found
 use Rattle.entries.specs.Entries.{Finds}
-use Rattle.nodes.specs.Contract.{Stored, Reads}
+use Rattle.nodes.specs.Contract.{Stored, ReadsFound}
 use Rattle.nodes.proofs.Storing.{stored-is}
 use Rattle.meaning.specs.Meaning.{Step}
 use Rattle.meaning.specs.Meanings.{isTrue}
@@ -30,7 +30,7 @@ module _ {s : List ℕ} {key value : ℕ} {k : List ℕ} {v : Yaml} (e : EntryAt
 
 -- ---- what stands behind it
 
-pub flag-stored : {s old new : List ℕ} {at end : ℕ} {place : Found} {flag : Bool} (r : Reads s isTrue place flag) (b : Bool)
+pub flag-stored : {s old new : List ℕ} {at end : ℕ} {place : Found} {flag : Bool} (r : ReadsFound s isTrue place flag) (b : Bool)
     → b ≡ isTrue (r .value) → Stored old new at (encode (bool b)) end → Stored old new at (encode (bool flag)) end
 flag-stored r b e w = stored-is (ap (λ (x : Bool). encode (bool x)) (e ∙ sym (r .is))) w
 

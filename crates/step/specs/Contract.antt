@@ -1,4 +1,5 @@
--- What the readers and the writers of a step promise. Assumes nothing.
+-- Section 4 of document 01, for contracts: what the readers and the writers of a step promise. Uses Base and Told of `refusal`; Tree and
+-- Encode of `item`; Scalars of `scalar`; Entries of `entries`; Meaning and Meanings of `meaning`; Contract of `nodes`. Assumes nothing.
 use mathlib.Core.Path.{_≡_}
 use Prim.Native.Nat.{ℕ, _-_, _≤_}
 use mathlib.Core.List.{List}
@@ -14,7 +15,7 @@ use Rattle.scalar.specs.Scalars.{keyText}
 use Rattle.entries.specs.declared.Pair.{Pair}
 use Rattle.entries.specs.declared.Pair.the-variants as pairs
 use Rattle.entries.specs.Entries.{Stands, Holds, Finds, FoundInside}
-use Rattle.nodes.specs.Contract.{Reads}
+use Rattle.nodes.specs.Contract.{ReadsFound}
 use Rattle.meaning.specs.Meaning.{Step}
 use Rattle.meaning.specs.Meanings.{orEmpty, expectOf, commands, commandOf, expectAllowed, isTrue}
 use Rattle.step.specs.declared.Command.{Command}
@@ -37,11 +38,11 @@ mapping none = none
 mapping (some es) = some (dict es)
 
 pub record StepStands (s : List ℕ) (step : Step) (p : StepPlaces) : Type 0 where
-  pub name : Reads s (λ o. orEmpty (maybe o none keyText)) (p .name) (step .name)
-  pub id : Reads s (λ o. orEmpty (maybe o none keyText)) (p .id) (step .id)
+  pub name : ReadsFound s (λ o. orEmpty (maybe o none keyText)) (p .name) (step .name)
+  pub id : ReadsFound s (λ o. orEmpty (maybe o none keyText)) (p .id) (step .id)
   pub command : EntryAt s (p .key) (p .value) (step .key) (step .value)
-  pub timeout : Reads s (λ o. maybe o none keyText) (p .timeout) (step .timeout)
-  pub continue : Reads s isTrue (p .continues) (step .continue)
+  pub timeout : ReadsFound s (λ o. maybe o none keyText) (p .timeout) (step .timeout)
+  pub continue : ReadsFound s isTrue (p .continues) (step .continue)
   pub expect : Finds s (mapping (step .expect)) (p .expect)
 
 -- a reading, and where the parts of the step stand that it gives
@@ -50,12 +51,12 @@ pub record ReadsStep (s : List ℕ) (answer : Answer Step) (p : StepPlaces) : Ty
   pub is : answer ≡ good step
   pub stands : StepStands s step p
 
-abbrev pub AgreesRead : List ℕ → Answer Step → StepRead → Type 0
-AgreesRead s answer (read.Step p) = ReadsStep s answer p
-AgreesRead s answer (read.Refused e) = answer ≡ refusal e
+abbrev pub AgreesStep : List ℕ → Answer Step → StepRead → Type 0
+AgreesStep s answer (read.Step p) = ReadsStep s answer p
+AgreesStep s answer (read.Refused e) = answer ≡ refusal e
 
 -- places in the bytes, whatever they are
-pub record PlacesInside (s : List ℕ) (p : StepPlaces) : Type 0 where
+pub record StepPlacesInside (s : List ℕ) (p : StepPlaces) : Type 0 where
   pub name : FoundInside s (p .name)
   pub id : FoundInside s (p .id)
   pub key : p .key ≤ p .value
@@ -65,7 +66,7 @@ pub record PlacesInside (s : List ℕ) (p : StepPlaces) : Type 0 where
   pub expect : FoundInside s (p .expect)
 
 abbrev pub ReadInside : List ℕ → StepRead → Type 0
-ReadInside s (read.Step p) = PlacesInside s p
+ReadInside s (read.Step p) = StepPlacesInside s p
 ReadInside s (read.Refused e) = Unit {0}
 
 -- ---- 33
@@ -113,7 +114,3 @@ CommandInside s Other = Unit {0}
 abbrev pub AgreesAllowed : List ℕ → Found → ℕ → ℕ → Bool → Type 0
 AgreesAllowed s expect key value r =
     (line n : ℕ) (m : Option Entries) → Finds s (mapping m) expect → expectAllowed line n (take (value - key) (drop key s)) m ≡ ensure r 35 line n
-
-unfoldable pub Agree-open : Unit {0}
-unfolding mapping
-Agree-open = tt

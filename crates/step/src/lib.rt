@@ -1,9 +1,9 @@
 // A step in the bytes of its mapping (document 01, section 4): read as the places of its parts, which writes nothing, and written from
-// them as its item (section 5).
+// them as its item (section 5). Its seven parts take at most 2 ^ 21 bytes each, so a step takes less than 2 ^ 24.
 ghost use mathlib.Core.Path.{_≡_};
 ghost use mathlib.Core.List.{_++_};
 ghost use mathlib.Core.Option.{Option};
-ghost use Prim.Native.Nat.{_+_, _≤_};
+ghost use Prim.Native.Nat.{_+_, _*_, _≤_, _^_};
 ghost use lib.ListN.{length};
 ghost use Rattle.item.specs.Tree.{Yaml, Entries, bool, Ranged};
 ghost use Rattle.item.specs.Encode.{encode};
@@ -12,7 +12,8 @@ ghost use Rattle.nodes.specs.Contract.{Stored, AgreesPart, PartNear};
 ghost use Rattle.meaning.specs.Meaning.{Step};
 ghost use Rattle.meaning.specs.Record.{textItem, optional, expected, stepItem};
 ghost use Rattle.meaning.specs.Meanings.{commands, isTrue, stepOf, stepAt};
-ghost use Rattle.step.specs.Contract.{StepStands, AgreesRead, ReadInside, AgreesExpect, AgreesFirst, FirstInside, AgreesCommand, CommandInside, AgreesAllowed};
+ghost use Rattle.step.specs.Contract.{StepStands, AgreesStep, ReadInside, AgreesExpect, AgreesFirst, FirstInside, AgreesCommand};
+ghost use Rattle.step.specs.Contract.{CommandInside, AgreesAllowed};
 use entries::Pair;
 use entries::find;
 use entries::pair_at;
@@ -54,7 +55,7 @@ enum Command {
 
 // The first of the entries from `from` to `to` whose key is no step field.
 fn first_command(s: &[u8], from: usize, to: usize) -> Pair
-    requires { ⌜ (length (now s) ≤ 1048576) × (to ≤ length (now s)) ⌝ }
+    requires { ⌜ (length (now s) ≤ 2 ^ 20) × (to ≤ length (now s)) ⌝ }
     ensures { λ r. ⌜ FirstInside (now (s .entry)) r ⌝ }
     ensures command { λ r. ⌜ ((es : Entries) → Holds (now (s .entry)) from to es → AgreesFirst (now (s .entry)) to (commands es) r) ⌝ }
 {
@@ -79,7 +80,7 @@ fn first_command(s: &[u8], from: usize, to: usize) -> Pair
 }
 
 fn command_in(s: &[u8], from: usize, to: usize) -> Command
-    requires { ⌜ (length (now s) ≤ 1048576) × (to ≤ length (now s)) ⌝ }
+    requires { ⌜ (length (now s) ≤ 2 ^ 20) × (to ≤ length (now s)) ⌝ }
     ensures { λ r. ⌜ CommandInside (now (s .entry)) r ⌝ }
     ensures command { λ r. ⌜ ((es : Entries) → Holds (now (s .entry)) from to es → AgreesCommand (now (s .entry)) (commands es) r) ⌝ }
 {
@@ -105,7 +106,7 @@ fn command_in(s: &[u8], from: usize, to: usize) -> Command
 
 // Whether `expect` is absent or a mapping.
 fn expect_fits(s: &[u8], expect: Found) -> bool
-    requires { ⌜ length (now s) ≤ 1048576 ⌝ }
+    requires { ⌜ length (now s) ≤ 2 ^ 20 ⌝ }
     ensures { λ r. ⌜ ((o : Option Yaml) → Finds (now (s .entry)) o expect → AgreesExpect o r) ⌝ }
 {
     let Found::At(p) = expect else {
@@ -136,9 +137,9 @@ fn expect_allowed(s: &[u8], expect: Found, key: usize, value: usize) -> bool
 
 // The step of the entries from `from` to `to`.
 fn read_entries(s: &[u8], from: usize, to: usize, line: u32, number: u32) -> StepRead
-    requires { ⌜ (length (now s) ≤ 1048576) × (to ≤ length (now s)) ⌝ }
+    requires { ⌜ (length (now s) ≤ 2 ^ 20) × (to ≤ length (now s)) ⌝ }
     ensures { λ r. ⌜ ReadInside (now (s .entry)) r ⌝ }
-    ensures step { λ r. ⌜ ((es : Entries) → Holds (now (s .entry)) from to es → AgreesRead (now (s .entry)) (stepOf line number es) r) ⌝ }
+    ensures step { λ r. ⌜ ((es : Entries) → Holds (now (s .entry)) from to es → AgreesStep (now (s .entry)) (stepOf line number es) r) ⌝ }
 {
     let expect = find(s, from, to, b"expect");
     if !expect_fits(s, expect) {
@@ -168,10 +169,10 @@ fn read_entries(s: &[u8], from: usize, to: usize, line: u32, number: u32) -> Ste
 
 // The step at the item `i`, in this line and with this number.
 pub fn read_step(s: &[u8], i: usize, line: u32, number: u32) -> StepRead
-    requires { ⌜ length (now s) ≤ 1048576 ⌝ }
+    requires { ⌜ length (now s) ≤ 2 ^ 20 ⌝ }
     ensures { λ r. ⌜ ReadInside (now (s .entry)) r ⌝ }
     ensures step { λ r. ⌜ ((y : Yaml) → Ranged y → Stands (now (s .entry)) i (encode y)
-        → AgreesRead (now (s .entry)) (stepAt line number y) r) ⌝ }
+        → AgreesStep (now (s .entry)) (stepAt line number y) r) ⌝ }
 {
     let head = header_at(s, i);
     let Header::Item { kind, from, to } = head else {
@@ -185,7 +186,7 @@ pub fn read_step(s: &[u8], i: usize, line: u32, number: u32) -> StepRead
 
 // Whether a key's value is the boolean true.
 fn is_true(s: &[u8], found: Found) -> bool
-    requires { ⌜ length (now s) ≤ 1048576 ⌝ }
+    requires { ⌜ length (now s) ≤ 2 ^ 20 ⌝ }
     ensures { λ r. ⌜ ((o : Option Yaml) → Finds (now (s .entry)) o found → r ≡ isTrue o) ⌝ }
 {
     let Found::At(p) = found else {
@@ -205,7 +206,7 @@ fn is_true(s: &[u8], found: Found) -> bool
 }
 
 fn put_flag(out: &mut [u8], at: usize, flag: bool) -> usize
-    requires { ⌜ (at ≤ 2251799813685248) × (length (now out) ≤ 1048576) ⌝ }
+    requires { ⌜ (at ≤ 2 ^ 51) × (length (now out) ≤ 2 ^ 20) ⌝ }
     ensures { λ r. ⌜ Stored (now (out .entry)) (now (out .exit)) at (encode (bool flag)) r ⌝ }
 {
     let end = at + 7;
@@ -216,8 +217,8 @@ fn put_flag(out: &mut [u8], at: usize, flag: bool) -> usize
 }
 
 fn put_names(s: &[u8], places: StepPlaces, out: &mut [u8], at: usize) -> usize
-    requires { ⌜ (length (now s) ≤ 1048576) × (at ≤ 2000000000000000) × (length (now out) ≤ 1048576) ⌝ }
-    ensures { λ r. ⌜ ((at ≤ r) × (r ≤ at + 4194304) × (length (now (out .exit)) ≡ length (now (out .entry)))) ⌝ }
+    requires { ⌜ (length (now s) ≤ 2 ^ 20) × (at + 2 ^ 23 ≤ 2 ^ 51) × (length (now out) ≤ 2 ^ 20) ⌝ }
+    ensures { λ r. ⌜ ((at ≤ r) × (r ≤ at + 2 ^ 22) × (length (now (out .exit)) ≡ length (now (out .entry)))) ⌝ }
     ensures names { λ r. ⌜ ((step : Step) → StepStands (now (s .entry)) step places
         → Stored (now (out .entry)) (now (out .exit)) at (textItem (step .name) ++ textItem (step .id)) r) ⌝ }
 {
@@ -228,9 +229,9 @@ fn put_names(s: &[u8], places: StepPlaces, out: &mut [u8], at: usize) -> usize
 }
 
 fn put_command(s: &[u8], places: StepPlaces, out: &mut [u8], at: usize) -> usize
-    requires { ⌜ (length (now s) ≤ 1048576) × (places .key ≤ places .value) × (places .value ≤ length (now s)) × (at ≤ 2000000000000000)
-        × (length (now out) ≤ 1048576) ⌝ }
-    ensures { λ r. ⌜ ((at ≤ r) × (r ≤ at + 4194304) × (length (now (out .exit)) ≡ length (now (out .entry)))) ⌝ }
+    requires { ⌜ (length (now s) ≤ 2 ^ 20) × (places .key ≤ places .value) × (places .value ≤ length (now s)) × (at + 2 ^ 23 ≤ 2 ^ 51)
+        × (length (now out) ≤ 2 ^ 20) ⌝ }
+    ensures { λ r. ⌜ ((at ≤ r) × (r ≤ at + 2 ^ 22) × (length (now (out .exit)) ≡ length (now (out .entry)))) ⌝ }
     ensures command { λ r. ⌜ ((step : Step) → StepStands (now (s .entry)) step places
         → Stored (now (out .entry)) (now (out .exit)) at (textItem (step .key) ++ encode (step .value)) r) ⌝ }
 {
@@ -242,8 +243,8 @@ fn put_command(s: &[u8], places: StepPlaces, out: &mut [u8], at: usize) -> usize
 
 // The timeout, whether to go on after an error, and what is expected.
 fn put_rest(s: &[u8], places: StepPlaces, out: &mut [u8], at: usize) -> usize
-    requires { ⌜ (length (now s) ≤ 1048576) × (at ≤ 2000000000000000) × (length (now out) ≤ 1048576) ⌝ }
-    ensures { λ r. ⌜ ((at ≤ r) × (r ≤ at + 6291456) × (length (now (out .exit)) ≡ length (now (out .entry)))) ⌝ }
+    requires { ⌜ (length (now s) ≤ 2 ^ 20) × (at + 2 ^ 23 ≤ 2 ^ 51) × (length (now out) ≤ 2 ^ 20) ⌝ }
+    ensures { λ r. ⌜ ((at ≤ r) × (r ≤ at + 3 * 2 ^ 21) × (length (now (out .exit)) ≡ length (now (out .entry)))) ⌝ }
     ensures fields { λ r. ⌜ ((step : Step) → StepStands (now (s .entry)) step places
         → Stored (now (out .entry)) (now (out .exit)) at
         (encode (optional (step .timeout)) ++ (encode (bool (step .continue)) ++ encode (expected (step .expect)))) r) ⌝ }
@@ -258,9 +259,9 @@ fn put_rest(s: &[u8], places: StepPlaces, out: &mut [u8], at: usize) -> usize
 
 // The item of the step whose parts stand at these places.
 fn put_step(s: &[u8], places: StepPlaces, out: &mut [u8], at: usize) -> usize
-    requires { ⌜ (length (now s) ≤ 1048576) × (places .key ≤ places .value) × (places .value ≤ length (now s)) × (at ≤ 1125899906842624)
-        × (length (now out) ≤ 1048576) ⌝ }
-    ensures { λ r. ⌜ ((at ≤ r) × (r ≤ at + 16777216) × (length (now (out .exit)) ≡ length (now (out .entry)))) ⌝ }
+    requires { ⌜ (length (now s) ≤ 2 ^ 20) × (places .key ≤ places .value) × (places .value ≤ length (now s)) × (at ≤ 2 ^ 50)
+        × (length (now out) ≤ 2 ^ 20) ⌝ }
+    ensures { λ r. ⌜ ((at ≤ r) × (r ≤ at + 2 ^ 24) × (length (now (out .exit)) ≡ length (now (out .entry)))) ⌝ }
     ensures step { λ r. ⌜ ((step : Step) → StepStands (now (s .entry)) step places
         → Stored (now (out .entry)) (now (out .exit)) at (stepItem step) r) ⌝ }
 {
@@ -273,8 +274,8 @@ fn put_step(s: &[u8], places: StepPlaces, out: &mut [u8], at: usize) -> usize
 
 // The step at the item `i`, in this line and with this number, written as its item.
 pub fn step_at(s: &[u8], i: usize, line: u32, number: u32, out: &mut [u8], at: usize) -> Part
-    requires { ⌜ (length (now s) ≤ 1048576) × (at ≤ 1125899906842624) × (length (now out) ≤ 1048576) ⌝ }
-    ensures { λ r. ⌜ PartNear (now (out .entry)) (now (out .exit)) at 16777216 r ⌝ }
+    requires { ⌜ (length (now s) ≤ 2 ^ 20) × (at ≤ 2 ^ 50) × (length (now out) ≤ 2 ^ 20) ⌝ }
+    ensures { λ r. ⌜ PartNear (now (out .entry)) (now (out .exit)) at (2 ^ 24) r ⌝ }
     ensures step { λ r. ⌜ ((y : Yaml) → Ranged y → Stands (now (s .entry)) i (encode y)
         → AgreesPart (stepAt line number y) stepItem (now (out .entry)) (now (out .exit)) at r) ⌝ }
 {

@@ -1,4 +1,5 @@
--- What the readers of step lines promise. Assumes nothing.
+-- Section 4 of document 01, for contracts: what the readers of step lines promise. Uses Lines of `lines`; StepLines of this crate. Assumes
+-- nothing.
 use mathlib.Core.Path.{_≡_}
 use Prim.Native.Nat.{ℕ, _≤_}
 use mathlib.Core.List.{List}

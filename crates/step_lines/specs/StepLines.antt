@@ -1,4 +1,4 @@
--- Section 4 of document 01: the lines of steps (`step_lines`). Assumes nothing.
+-- Section 4 of document 01: the lines of steps (`step_lines`). Uses Base of `refusal`; Lines and Dash of `lines`. Assumes nothing.
 use Prim.Native.Nat.{ℕ}
 use mathlib.Core.List.{List, [], _∷_}
 use mathlib.Core.Bool.{Bool, _&&_}
@@ -40,7 +40,3 @@ headLine (n ∷ ns) = n
 unfoldable pub tailLines : List ℕ → List ℕ
 tailLines [] = []
 tailLines (n ∷ ns) = ns
-
-unfoldable pub StepLines-open : Unit {0}
-unfolding isSteps behindSteps dashesAt dashesFrom stepLines headLine tailLines
-StepLines-open = tt

@@ -16,7 +16,7 @@ use Rattle.scalar.specs.Scalars.{keyText}
 use Rattle.entries.specs.Entries.{Holds}
 use Rattle.entries.proofs.Values.{Mapped, entries-of}
 use Rattle.entries.proofs.Walking.{no-more, first-ranged, others-ranged, Turn}
-use Rattle.nodes.specs.Contract.{Stored, Reads}
+use Rattle.nodes.specs.Contract.{Stored, ReadsFound}
 use Rattle.nodes.proofs.Storing.{stored-then, stored-is, stored-item}
 use Rattle.meaning.specs.Meaning as meaning
 use Rattle.meaning.specs.Record.{joined, optional, defaultsParts, defaultsItem}
@@ -24,7 +24,7 @@ use Rattle.meaning.specs.Meanings.{refuse, scalarDefault, defaultsFrom, noDefau
 use Rattle.top.specs.declared.Value.{Value}
 use Rattle.top.specs.declared.Default.{Default}
 use Rattle.top.specs.declared.Default.the-variants.{Timeout, WallBudget, Unknown}
-use Rattle.top.specs.Contract.{orNull, scalarOf, IsValue, defaultKey, IsDefaults}
+use Rattle.top.specs.Contract.{orNull, scalarText, IsValue, defaultKey, IsDefaults}
 
 -- ---- the walk
 
@@ -34,10 +34,10 @@ pub record DefaultsRest (s : List ℕ) (to at : ℕ) (es : Entries) (timeout wal
   pub rest : Entries
   pub holds : Holds s at to rest
   pub is : defaultsFrom noDefaults es ≡ defaultsFrom got rest
-  pub time : Reads s scalarOf timeout (got .timeout)
-  pub wall : Reads s scalarOf wallBudget (got .wallBudget)
+  pub time : ReadsFound s scalarText timeout (got .timeout)
+  pub wall : ReadsFound s scalarText wallBudget (got .wallBudget)
 
-nothing : (s : List ℕ) → Reads s scalarOf Nothing none
+nothing : (s : List ℕ) → ReadsFound s scalarText Nothing none
 unfolding maybe
 nothing s = record { value = none; found = refl; is = refl }
 
@@ -86,7 +86,7 @@ module _ {s : List ℕ} {to at start stop kind next : ℕ} {es : Entries} {timeo
       ∙ by-key (k .got) (t .entry .k) (t .entry .v) (t .entry .others)
       ∙ ap (λ (d : Default). byKey d (k .got) (t .entry .v) (t .entry .others)) (ap defaultKey (sym (t .key-is)) ∙ sym e)
 
-  this : Reads s scalarOf (At stop) (keyText (t .entry .v))
+  this : ReadsFound s scalarText (At stop) (keyText (t .entry .v))
   unfolding maybe
   this = record { value = some (t .entry .v); found = record { value = t .entry .v; is = refl; ranged = first-ranged (t .entry) (k .holds .ranged); stands = t .value }; is = refl }
 

@@ -1,6 +1,6 @@
 -- 21 to 31 in their order, and the fields of a record before its steps. Assumes nothing.
 use mathlib.Core.Path.{_≡_, refl, sym, ap, _∙_}
-use Prim.Native.Nat.{ℕ, _-_, _≤_}
+use Prim.Native.Nat.{ℕ, _-_, _≤_, _^_}
 use native.Mathlib.Omega.{arith}
 use mathlib.Core.List.{List, append-nil}
 use mathlib.Core.Bool.{true, false}
@@ -23,7 +23,7 @@ use Rattle.meaning.specs.Record.{joined, textItem, tagsItem, defaultsItem, fiel
 use Rattle.meaning.specs.Meanings.{refuse, document, scalarAt, orEmpty, checkSchema, sequenceOr, textsOf, defaultsOf, Top, topOf, withSteps}
 use Rattle.top.specs.declared.Value.{Value}
 use Rattle.top.specs.declared.TopPlaces.{TopPlaces}
-use Rattle.top.specs.Contract.{orNull, scalarOf, textOf, ReadsTop, topFields, IsValue, KnownKeys, AgreesScalar, isSchema, Passed, IsSequence, IsDefaults}
+use Rattle.top.specs.Contract.{orNull, scalarText, textOf, ReadsTop, topFields, IsValue, KnownKeys, AgreesScalar, isSchema, Passed, IsSequence, IsDefaults}
 use Rattle.top.proofs.Values.{schema-told}
 
 -- ---- 21 to 24
@@ -62,27 +62,27 @@ module _ {s : List ℕ} {v : Value} (y : Yaml) (i : IsValue s y v) where
     top-22 h = rw (is-document, h)
 
     module _ (n : KnownKeys es true) where
-      pub top-24 : AgreesScalar (scalarOf (get (bytes "schema") es)) false → topOf y ≡ refused 24 0 0
+      pub top-24 : AgreesScalar (scalarText (get (bytes "schema") es)) false → topOf y ≡ refused 24 0 0
       unfolding topOf _>>=_ _>>_ scalarAt checkSchema
       top-24 h = rw (is-document, n, h)
 
-      module _ (t : AgreesScalar (scalarOf (get (bytes "schema") es)) true) where
-        pub top-23 : false ≡ isSchema (scalarOf (get (bytes "schema") es)) → topOf y ≡ refused 23 0 0
+      module _ (t : AgreesScalar (scalarText (get (bytes "schema") es)) true) where
+        pub top-23 : false ≡ isSchema (scalarText (get (bytes "schema") es)) → topOf y ≡ refused 23 0 0
         unfolding topOf _>>=_ _>>_ scalarAt ensure
-        top-23 h = rw (is-document, n, schema-told (scalarOf (get (bytes "schema") es)) false (t .1) h)
+        top-23 h = rw (is-document, n, schema-told (scalarText (get (bytes "schema") es)) false (t .1) h)
 
-        pub passed : true ≡ isSchema (scalarOf (get (bytes "schema") es)) → Passed y es
+        pub passed : true ≡ isSchema (scalarText (get (bytes "schema") es)) → Passed y es
         unfolding scalarAt ensure
-        passed h = record { document-is = is-document; known = n; schema-is = schema-told (scalarOf (get (bytes "schema") es)) true (t .1) h }
+        passed h = record { document-is = is-document; known = n; schema-is = schema-told (scalarText (get (bytes "schema") es)) true (t .1) h }
 
 -- ---- 25 to 31
 
 module _ {y : Yaml} {es : Entries} (p : Passed y es) where
-  pub top-25 : AgreesScalar (scalarOf (get (bytes "name") es)) false → topOf y ≡ refused 25 0 0
+  pub top-25 : AgreesScalar (scalarText (get (bytes "name") es)) false → topOf y ≡ refused 25 0 0
   unfolding topOf _>>=_ _>>_ scalarAt given
   top-25 h = rw (p .document-is, p .known, p .schema-is, h)
 
-  module _ (n : AgreesScalar (scalarOf (get (bytes "name") es)) true) where
+  module _ (n : AgreesScalar (scalarText (get (bytes "name") es)) true) where
     pub top-26 : sequenceOr 26 (get (bytes "tags") es) ≡ refused 26 0 0 → topOf y ≡ refused 26 0 0
     unfolding topOf _>>=_ _>>_ scalarAt given
     top-26 h = rw (p .document-is, p .known, p .schema-is, n .1, h)
@@ -102,7 +102,9 @@ module _ {y : Yaml} {es : Entries} (p : Passed y es) where
           unfolding topOf _>>=_ _>>_ scalarAt given
           top-31 h = rw (p .document-is, p .known, p .schema-is, n .1, t, f, d, h)
 
-  module _ {s : List ℕ} (r : TopPlaces) (n : AgreesScalar (scalarOf (get (bytes "name") es)) true) (t : IsSequence s (get (bytes "tags") es) (r .tags)) (f : IsSequence s (get (bytes "fail_on") es) (r .«fail_on»)) (d : IsDefaults s (defaultsOf (get (bytes "defaults") es)) (r .timeout) (r .«wall_budget»)) where
+  module _ {s : List ℕ} (r : TopPlaces) (n : AgreesScalar (scalarText (get (bytes "name") es)) true) (t : IsSequence s (get (bytes "tags") es) (r .tags))
+      (f : IsSequence s (get (bytes "fail_on") es) (r .«fail_on»))
+      (d : IsDefaults s (defaultsOf (get (bytes "defaults") es)) (r .timeout) (r .«wall_budget»)) where
     pub top-read : Finds s (get (bytes "name") es) (r .name) → Finds s (get (bytes "description") es) (r .description) → Finds s (get (bytes "image") es) (r .image) → Finds s (get (bytes "setup") es) (r .setup) → IsSequence s (get (bytes "steps") es) (r .steps) → ReadsTop s (topOf y) r
     unfolding topOf _>>=_ _>>_ scalarAt given orEmpty maybe
     top-read name description image setup steps = record {
@@ -133,7 +135,7 @@ module _ {y : Yaml} {es : Entries} (p : Passed y es) where
 -- ---- the fields
 
 module _ (s : List ℕ) (from to : ℕ) {old new : List ℕ} {at end : ℕ} (w : Stored old new at (item 4 (part s from to)) end) where
-  pub sequence-near : to ≤ length s → length s ≤ 1048576 → Near old new at end
+  pub sequence-near : to ≤ length s → length s ≤ 2 ^ 20 → Near old new at end
   sequence-near h l =
       let n : length (part s from to) ≡ to - from = length-take-le (to - from) (drop from s) (simp length-drop (omega arith)) in
       record { low = omega (arith, w .ends); high = omega (arith, w .ends, item-length 4 (part s from to), n); kept = w .kept }
@@ -142,7 +144,10 @@ module _ (s : List ℕ) (from to : ℕ) {old new : List ℕ} {at end : ℕ} (w :
   unfolding encode
   sequence-stored ys h = stored-is (ap (item 4) (stands-part (h .lies .stands) (to - from) (omega (arith, h .lies .ends)))) w
 
-pub fields-stored : {o a b c d e f g : List ℕ} {at i j k l m n end : ℕ} (t : Top) → Stored o a at (textItem (t .name)) i → Stored a b i (textItem (t .description)) j → Stored b c j (tagsItem (t .tags)) k → Stored c d k (textItem (t .image)) l → Stored d e l (encode (t .setup)) m → Stored e f m (defaultsItem (t .defaults)) n → Stored f g n (encode (seq (t .failOn))) end → Stored o g at (joined (topFields t)) end
+pub fields-stored : {o a b c d e f g : List ℕ} {at i j k l m n end : ℕ} (t : Top) → Stored o a at (textItem (t .name)) i
+    → Stored a b i (textItem (t .description)) j → Stored b c j (tagsItem (t .tags)) k → Stored c d k (textItem (t .image)) l
+    → Stored d e l (encode (t .setup)) m → Stored e f m (defaultsItem (t .defaults)) n → Stored f g n (encode (seq (t .failOn))) end
+    → Stored o g at (joined (topFields t)) end
 unfolding topFields withSteps fields joined
 fields-stored t name description tags image setup defaults failOn =
     stored-then _ _ name (stored-then _ _ description (stored-then _ _ tags (stored-then _ _ image (stored-then _ _ setup (stored-then _ _ defaults (stored-is (sym (append-nil _)) failOn))))))

@@ -18,7 +18,7 @@ use Rattle.entries.proofs.Standing.{stands-part, Valued}
 use Rattle.entries.proofs.Values.{items-of}
 use Rattle.meaning.specs.Meanings.{schema, checkSchema, sequenceOr}
 use Rattle.top.specs.declared.Value.{Value}
-use Rattle.top.specs.Contract.{orNull, scalarOf, IsValue, AgreesScalar, isSchema, IsSequence}
+use Rattle.top.specs.Contract.{orNull, scalarText, IsValue, AgreesScalar, isSchema, IsSequence}
 
 -- ---- what was looked for
 
@@ -50,18 +50,18 @@ no-text (str t) h = let k = h (λ e. omega arith) in absurd (omega arith)
 no-text (seq ys) h = refl
 no-text (dict es) h = refl
 
-scalar-null : (o : Option Yaml) → scalarOf o ≡ keyText (orNull o)
+scalar-null : (o : Option Yaml) → scalarText o ≡ keyText (orNull o)
 unfolding maybe keyText
 scalar-null none = refl
 scalar-null (some y) = refl
 
 module _ {s : List ℕ} {v : Value} (o : Option Yaml) (i : IsValue s (orNull o) v) where
-  pub scalar-there : (v .kind ≡ 0 → ⊥) → v .kind ≤ 3 → AgreesScalar (scalarOf o) true
+  pub scalar-there : (v .kind ≡ 0 → ⊥) → v .kind ≤ 3 → AgreesScalar (scalarText o) true
   scalar-there h k =
       let t = text-there (orNull o) (λ e. h (i .kind-is ∙ e)) (omega (arith, i .kind-is)) in
       (t .0, scalar-null o ∙ t .1)
 
-  pub no-scalar : ((v .kind ≡ 0 → ⊥) → 3 < v .kind) → AgreesScalar (scalarOf o) false
+  pub no-scalar : ((v .kind ≡ 0 → ⊥) → 3 < v .kind) → AgreesScalar (scalarText o) false
   no-scalar h = scalar-null o ∙ no-text (orNull o) (λ k. let g = h (λ e. k (sym (i .kind-is) ∙ e)) in omega (arith, i .kind-is, g))
 
 -- ---- the schema: no text of a boolean or an integer is it
@@ -118,10 +118,10 @@ string-schema (seq ys) h = absurd (omega arith)
 string-schema (dict es) h = absurd (omega arith)
 
 module _ {s : List ℕ} {v : Value} (o : Option Yaml) (i : IsValue s (orNull o) v) where
-  pub schema-other : (v .kind ≡ 3 → ⊥) → false ≡ isSchema (scalarOf o)
+  pub schema-other : (v .kind ≡ 3 → ⊥) → false ≡ isSchema (scalarText o)
   schema-other h = other-schema (orNull o) (λ e. h (i .kind-is ∙ e)) ∙ ap isSchema (sym (scalar-null o))
 
-  pub schema-string : v .kind ≡ 3 → {b : Bool} → b ≡ same (take (v .to - v .from) (drop (v .from) s)) schema → b ≡ isSchema (scalarOf o)
+  pub schema-string : v .kind ≡ 3 → {b : Bool} → b ≡ same (take (v .to - v .from) (drop (v .from) s)) schema → b ≡ isSchema (scalarText o)
   schema-string h e =
       e
       ∙ ap (λ (l : List ℕ). same l schema) (stands-part (i .stands) (v .to - v .from) (omega (arith, i .ends)))

@@ -1,4 +1,6 @@
--- What the readers and the writers of top keys promise. Assumes nothing.
+-- Section 4 of document 01, for contracts: what the readers and the writers of top keys promise. Uses Base and Told of `refusal`; Tree and
+-- Encode of `item`; Scalars of `scalar`; Entries of `entries`; Meaning, Record and Meanings of `meaning`; Contract of `nodes`. Assumes
+-- nothing.
 use mathlib.Core.Path.{_≡_}
 use Prim.Native.Nat.{ℕ, _+_, _≤_}
 use mathlib.Core.List.{List, []}
@@ -12,7 +14,7 @@ use Rattle.item.specs.Encode.{kindOf}
 use Rattle.item.specs.declared.Found.{Found}
 use Rattle.scalar.specs.Scalars.{keyText}
 use Rattle.entries.specs.Entries.{Stands, Holds, FoundInside, content}
-use Rattle.nodes.specs.Contract.{Reads}
+use Rattle.nodes.specs.Contract.{ReadsFound}
 use Rattle.meaning.specs.Meaning as meaning
 use Rattle.meaning.specs.Record.{fields}
 use Rattle.meaning.specs.Meanings.{schema, document, knownKeys, scalarAt, orEmpty, checkSchema, sequenceOr, textsOf, Top, withSteps}
@@ -34,11 +36,11 @@ use Rattle.top.specs.declared.TopRead.the-variants as read
 abbrev pub orNull : Option Yaml → Yaml
 orNull o = maybe o null (λ v. v)
 
-abbrev pub scalarOf : Option Yaml → Option (List ℕ)
-scalarOf o = maybe o none keyText
+abbrev pub scalarText : Option Yaml → Option (List ℕ)
+scalarText o = maybe o none keyText
 
 abbrev pub textOf : Option Yaml → List ℕ
-textOf o = orEmpty (scalarOf o)
+textOf o = orEmpty (scalarText o)
 
 -- the texts of the items that stand in a range
 pub record Tagged (s : List ℕ) (r : Range) (ts : List (List ℕ)) : Type 0 where
@@ -47,13 +49,13 @@ pub record Tagged (s : List ℕ) (r : Range) (ts : List (List ℕ)) : Type 0 whe
   pub is : ts ≡ textsOf items
 
 pub record TopStands (s : List ℕ) (t : Top) (p : TopPlaces) : Type 0 where
-  pub name : Reads s textOf (p .name) (t .name)
-  pub description : Reads s textOf (p .description) (t .description)
+  pub name : ReadsFound s textOf (p .name) (t .name)
+  pub description : ReadsFound s textOf (p .description) (t .description)
   pub tags : Tagged s (p .tags) (t .tags)
-  pub image : Reads s textOf (p .image) (t .image)
-  pub setup : Reads s orNull (p .setup) (t .setup)
-  pub timeout : Reads s scalarOf (p .timeout) (t .defaults .timeout)
-  pub wall-budget : Reads s scalarOf (p .«wall_budget») (t .defaults .wallBudget)
+  pub image : ReadsFound s textOf (p .image) (t .image)
+  pub setup : ReadsFound s orNull (p .setup) (t .setup)
+  pub timeout : ReadsFound s scalarText (p .timeout) (t .defaults .timeout)
+  pub wall-budget : ReadsFound s scalarText (p .«wall_budget») (t .defaults .wallBudget)
   pub fail-on : Holds s (p .«fail_on» .from) (p .«fail_on» .to) (t .failOn)
   pub steps : Holds s (p .steps .from) (p .steps .to) (t .steps)
 
@@ -71,7 +73,7 @@ AgreesTop s answer (read.Refused e) = answer ≡ refusal e
 abbrev pub RangeInside : List ℕ → Range → Type 0
 RangeInside s r = (r .from ≤ r .to) × (r .to ≤ length s)
 
-pub record PlacesInside (s : List ℕ) (p : TopPlaces) : Type 0 where
+pub record TopPlacesInside (s : List ℕ) (p : TopPlaces) : Type 0 where
   pub name : FoundInside s (p .name)
   pub description : FoundInside s (p .description)
   pub tags : RangeInside s (p .tags)
@@ -83,7 +85,7 @@ pub record PlacesInside (s : List ℕ) (p : TopPlaces) : Type 0 where
   pub steps : RangeInside s (p .steps)
 
 abbrev pub TopInside : List ℕ → TopRead → Type 0
-TopInside s (read.Done p) = PlacesInside s p
+TopInside s (read.Done p) = TopPlacesInside s p
 TopInside s (read.Refused e) = Unit {0}
 
 -- the fields of a record before its steps
@@ -144,8 +146,8 @@ defaultKey k = if same k (bytes "timeout") then Timeout else if same k (bytes "w
 pub record IsDefaults (s : List ℕ) (answer : Answer meaning.Defaults) (timeout wallBudget : Found) : Type 0 where
   pub read : meaning.Defaults
   pub is : answer ≡ good read
-  pub time : Reads s scalarOf timeout (read .timeout)
-  pub wall : Reads s scalarOf wallBudget (read .wallBudget)
+  pub time : ReadsFound s scalarText timeout (read .timeout)
+  pub wall : ReadsFound s scalarText wallBudget (read .wallBudget)
 
 abbrev pub AgreesDefaults : List ℕ → Answer meaning.Defaults → Defaults → Type 0
 AgreesDefaults s answer (defaults.Places t w) = IsDefaults s answer t w

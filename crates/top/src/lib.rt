@@ -1,19 +1,22 @@
 // The top keys of a scenario in the bytes of its tree (document 01, section 4): where their parts stand, and from there the fields of
-// its record. Reading writes nothing, and writing refuses nothing.
+// its record. Reading writes nothing, and writing refuses nothing. Of at most 2 ^ 20 items each is written in at most 2 ^ 21 bytes, so
+// the fields take less than 2 ^ 42.
 ghost use mathlib.Core.Path.{_≡_};
 ghost use mathlib.Core.Option.{Option};
-ghost use Prim.Native.Nat.{_+_, _*_, _-_, _≤_};
+ghost use Prim.Native.Nat.{_+_, _*_, _-_, _≤_, _^_};
 ghost use lib.ListN.{length};
 ghost use Rattle.utf8.specs.Part.{part};
 ghost use Rattle.item.specs.Tree.{Yaml, Items, Entries, Ranged};
 ghost use Rattle.item.specs.Encode as items;
 ghost use Rattle.item.specs.Encode.{encode};
 ghost use Rattle.entries.specs.Entries.{Stands, Holds, Finds};
-ghost use Rattle.nodes.specs.Contract.{Stored, Reads};
+ghost use Rattle.nodes.specs.Contract.{Stored, ReadsFound};
 ghost use Rattle.meaning.specs.Meaning as meaning;
 ghost use Rattle.meaning.specs.Record.{joined, tagsItem, defaultsItem};
 ghost use Rattle.meaning.specs.Meanings.{Top, textsOf, noDefaults, defaultsFrom, defaultsOf, topOf};
-ghost use Rattle.top.specs.Contract.{orNull, scalarOf, TopStands, AgreesTop, RangeInside, PlacesInside, TopInside, topFields, IsValue, KnownKeys, AgreesScalar, isSchema, Passed, AgreesSequence, SequenceInside, defaultKey, AgreesDefaults, DefaultsInside};
+ghost use Rattle.top.specs.Contract.{orNull, scalarText, TopStands, AgreesTop, RangeInside, TopPlacesInside, TopInside, topFields};
+ghost use Rattle.top.specs.Contract.{IsValue, KnownKeys, AgreesScalar, isSchema, Passed, AgreesSequence, SequenceInside};
+ghost use Rattle.top.specs.Contract.{defaultKey, AgreesDefaults, DefaultsInside};
 use entries::Pair;
 use entries::Span;
 use entries::find;
@@ -86,7 +89,7 @@ pub enum TopRead {
 
 // What was looked for. A key that is absent is read as null.
 fn value_of(s: &[u8], found: Found) -> Value
-    requires { ⌜ length (now s) ≤ 1048576 ⌝ }
+    requires { ⌜ length (now s) ≤ 2 ^ 20 ⌝ }
     ensures { λ r. ⌜ (r .from ≤ r .to) × (r .to ≤ length (now (s .entry))) ⌝ }
     ensures value { λ r. ⌜ ((o : Option Yaml) → Finds (now (s .entry)) o found → IsValue (now (s .entry)) (orNull o) r) ⌝ }
 {
@@ -106,7 +109,7 @@ fn value_of(s: &[u8], found: Found) -> Value
 }
 
 fn known_keys(s: &[u8], from: usize, to: usize) -> bool
-    requires { ⌜ (length (now s) ≤ 1048576) × (to ≤ length (now s)) ⌝ }
+    requires { ⌜ (length (now s) ≤ 2 ^ 20) × (to ≤ length (now s)) ⌝ }
     ensures { λ r. ⌜ ((es : Entries) → Holds (now (s .entry)) from to es → KnownKeys es r) ⌝ }
 {
     let mut at = from;
@@ -130,8 +133,8 @@ fn known_keys(s: &[u8], from: usize, to: usize) -> bool
 }
 
 fn is_scalar(s: &[u8], found: Found) -> bool
-    requires { ⌜ length (now s) ≤ 1048576 ⌝ }
-    ensures { λ r. ⌜ ((o : Option Yaml) → Finds (now (s .entry)) o found → AgreesScalar (scalarOf o) r) ⌝ }
+    requires { ⌜ length (now s) ≤ 2 ^ 20 ⌝ }
+    ensures { λ r. ⌜ ((o : Option Yaml) → Finds (now (s .entry)) o found → AgreesScalar (scalarText o) r) ⌝ }
 {
     let value = value_of(s, found);
     if value.kind == 0 {
@@ -145,8 +148,8 @@ fn is_scalar(s: &[u8], found: Found) -> bool
 
 // Only a string can be it: no text of a boolean or an integer is.
 fn is_schema(s: &[u8], found: Found) -> bool
-    requires { ⌜ length (now s) ≤ 1048576 ⌝ }
-    ensures { λ r. ⌜ ((o : Option Yaml) → Finds (now (s .entry)) o found → r ≡ isSchema (scalarOf o)) ⌝ }
+    requires { ⌜ length (now s) ≤ 2 ^ 20 ⌝ }
+    ensures { λ r. ⌜ ((o : Option Yaml) → Finds (now (s .entry)) o found → r ≡ isSchema (scalarText o)) ⌝ }
 {
     let value = value_of(s, found);
     if value.kind != 3 {
@@ -159,7 +162,7 @@ fn is_schema(s: &[u8], found: Found) -> bool
 
 // The items of a sequence; null has none.
 fn sequence_of(s: &[u8], found: Found) -> Sequence
-    requires { ⌜ length (now s) ≤ 1048576 ⌝ }
+    requires { ⌜ length (now s) ≤ 2 ^ 20 ⌝ }
     ensures { λ r. ⌜ SequenceInside (now (s .entry)) r ⌝ }
     ensures items { λ r. ⌜ ((o : Option Yaml) → Finds (now (s .entry)) o found → AgreesSequence (now (s .entry)) o r) ⌝ }
 {
@@ -190,7 +193,7 @@ fn default_of(key: &[u8]) -> Default
 }
 
 fn defaults_in(s: &[u8], from: usize, to: usize) -> Defaults
-    requires { ⌜ (length (now s) ≤ 1048576) × (to ≤ length (now s)) ⌝ }
+    requires { ⌜ (length (now s) ≤ 2 ^ 20) × (to ≤ length (now s)) ⌝ }
     ensures { λ r. ⌜ DefaultsInside (now (s .entry)) r ⌝ }
     ensures defaults { λ r. ⌜ ((es : Entries) → Holds (now (s .entry)) from to es
         → AgreesDefaults (now (s .entry)) (defaultsFrom noDefaults es) r) ⌝ }
@@ -226,7 +229,7 @@ fn defaults_in(s: &[u8], from: usize, to: usize) -> Defaults
 }
 
 fn defaults_of(s: &[u8], found: Found) -> Defaults
-    requires { ⌜ length (now s) ≤ 1048576 ⌝ }
+    requires { ⌜ length (now s) ≤ 2 ^ 20 ⌝ }
     ensures { λ r. ⌜ DefaultsInside (now (s .entry)) r ⌝ }
     ensures defaults { λ r. ⌜ ((o : Option Yaml) → Finds (now (s .entry)) o found → AgreesDefaults (now (s .entry)) (defaultsOf o) r) ⌝ }
 {
@@ -245,7 +248,7 @@ fn defaults_of(s: &[u8], found: Found) -> Defaults
 
 // 25 to 31, of the entries from `from` to `to`.
 fn read_fields(s: &[u8], from: usize, to: usize) -> TopRead
-    requires { ⌜ (length (now s) ≤ 1048576) × (to ≤ length (now s)) ⌝ }
+    requires { ⌜ (length (now s) ≤ 2 ^ 20) × (to ≤ length (now s)) ⌝ }
     ensures { λ r. ⌜ TopInside (now (s .entry)) r ⌝ }
     ensures fields { λ r. ⌜ ((y : Yaml) (es : Entries) → Passed y es → Holds (now (s .entry)) from to es
         → AgreesTop (now (s .entry)) (topOf y) r) ⌝ }
@@ -286,7 +289,7 @@ fn read_fields(s: &[u8], from: usize, to: usize) -> TopRead
 
 // 21 to 31, of the tree that stands at the front.
 pub fn read_top(s: &[u8]) -> TopRead
-    requires { ⌜ length (now s) ≤ 1048576 ⌝ }
+    requires { ⌜ length (now s) ≤ 2 ^ 20 ⌝ }
     ensures { λ r. ⌜ TopInside (now (s .entry)) r ⌝ }
     ensures top { λ r. ⌜ ((y : Yaml) → Ranged y → Stands (now (s .entry)) 0 (encode y) → AgreesTop (now (s .entry)) (topOf y) r) ⌝ }
 {
@@ -311,7 +314,7 @@ pub fn read_top(s: &[u8]) -> TopRead
 
 // The items of a sequence as they stand.
 fn put_sequence(s: &[u8], range: Range, out: &mut [u8], at: usize) -> usize
-    requires { ⌜ RangeInside (now s) range × (length (now s) ≤ 1048576) × (at ≤ 1125899906842624) × (length (now out) ≤ 1048576) ⌝ }
+    requires { ⌜ RangeInside (now s) range × (length (now s) ≤ 2 ^ 20) × (at ≤ 2 ^ 50) × (length (now out) ≤ 2 ^ 20) ⌝ }
     ensures { λ r. ⌜ Stored (now (out .entry)) (now (out .exit)) at (items.item 4 (part (now (s .entry)) (range .from) (range .to))) r ⌝ }
 {
     let from = range.from;
@@ -323,8 +326,8 @@ fn put_sequence(s: &[u8], range: Range, out: &mut [u8], at: usize) -> usize
 
 // The texts of a sequence's scalars.
 fn put_tags(s: &[u8], range: Range, out: &mut [u8], at: usize) -> usize
-    requires { ⌜ RangeInside (now s) range × (length (now s) ≤ 1048576) × (at ≤ 1125899906842624) × (length (now out) ≤ 1048576) ⌝ }
-    ensures { λ r. ⌜ ((at ≤ r) × (r ≤ at + 6 + 2097152 * (range .to - range .from))
+    requires { ⌜ RangeInside (now s) range × (length (now s) ≤ 2 ^ 20) × (at ≤ 2 ^ 50) × (length (now out) ≤ 2 ^ 20) ⌝ }
+    ensures { λ r. ⌜ ((at ≤ r) × (r ≤ at + 6 + 2 ^ 21 * (range .to - range .from))
         × (length (now (out .exit)) ≡ length (now (out .entry)))) ⌝ }
     ensures tags { λ r. ⌜ ((ys : Items) → Holds (now (s .entry)) (range .from) (range .to) ys
         → Stored (now (out .entry)) (now (out .exit)) at (tagsItem (textsOf ys)) r) ⌝ }
@@ -351,10 +354,10 @@ fn put_tags(s: &[u8], range: Range, out: &mut [u8], at: usize) -> usize
 }
 
 fn put_defaults(s: &[u8], timeout: Found, wall_budget: Found, out: &mut [u8], at: usize) -> usize
-    requires { ⌜ (length (now s) ≤ 1048576) × (at ≤ 1125899906842624) × (length (now out) ≤ 1048576) ⌝ }
-    ensures { λ r. ⌜ ((at ≤ r) × (r ≤ at + 4194310) × (length (now (out .exit)) ≡ length (now (out .entry)))) ⌝ }
-    ensures defaults { λ r. ⌜ ((d : meaning.Defaults) → Reads (now (s .entry)) scalarOf timeout (d .timeout)
-        → Reads (now (s .entry)) scalarOf «wall_budget» (d .wallBudget)
+    requires { ⌜ (length (now s) ≤ 2 ^ 20) × (at ≤ 2 ^ 50) × (length (now out) ≤ 2 ^ 20) ⌝ }
+    ensures { λ r. ⌜ ((at ≤ r) × (r ≤ at + 2 ^ 22 + 6) × (length (now (out .exit)) ≡ length (now (out .entry)))) ⌝ }
+    ensures defaults { λ r. ⌜ ((d : meaning.Defaults) → ReadsFound (now (s .entry)) scalarText timeout (d .timeout)
+        → ReadsFound (now (s .entry)) scalarText «wall_budget» (d .wallBudget)
         → Stored (now (out .entry)) (now (out .exit)) at (defaultsItem d) r) ⌝ }
 {
     let middle = put_optional(s, timeout, out, at + 6);
@@ -365,8 +368,8 @@ fn put_defaults(s: &[u8], timeout: Found, wall_budget: Found, out: &mut [u8], at
 
 // The fields of a record before its steps.
 pub fn put_top(s: &[u8], top: TopPlaces, out: &mut [u8], at: usize) -> usize
-    requires { ⌜ (length (now s) ≤ 1048576) × PlacesInside (now s) top × (at ≤ 70368744177664) × (length (now out) ≤ 1048576) ⌝ }
-    ensures { λ r. ⌜ ((at ≤ r) × (r ≤ at + 4398046511104) × (length (now (out .exit)) ≡ length (now (out .entry)))) ⌝ }
+    requires { ⌜ (length (now s) ≤ 2 ^ 20) × TopPlacesInside (now s) top × (at ≤ 2 ^ 46) × (length (now out) ≤ 2 ^ 20) ⌝ }
+    ensures { λ r. ⌜ ((at ≤ r) × (r ≤ at + 2 ^ 42) × (length (now (out .exit)) ≡ length (now (out .entry)))) ⌝ }
     ensures fields { λ r. ⌜ ((t : Top) → TopStands (now (s .entry)) t top
         → Stored (now (out .entry)) (now (out .exit)) at (joined (topFields t)) r) ⌝ }
 {

@@ -10,3 +10,4 @@ pub mod Reading
 pub mod Sound
 pub mod Strings
 pub mod Sums
+pub mod Open

@@ -1,6 +1,6 @@
 -- What follows from the contract of `read_tree` for whoever calls it. Assumes nothing.
 use mathlib.Core.Path.{_≡_, refl, sym, ap, _∙_}
-use Prim.Native.Nat.{ℕ, _≤_, min}
+use Prim.Native.Nat.{ℕ, _≤_, min, _^_}
 use native.Mathlib.Omega.{arith}
 use mathlib.Core.List.{List, _++_}
 use lib.ListN.{length, take, drop}
@@ -25,7 +25,7 @@ pub record TreeTold (text old new : List ℕ) (n : ℕ) : Type 0 where
   pub size : n ≡ length (encode read)
   pub written : take n new ≡ encode read
   pub kept : drop n new ≡ drop n old
-  pub room : n ≤ min (length old) 1048576
+  pub room : n ≤ min (length old) (2 ^ 20)
   pub sound : Sound read
 
 pub told : (text old new : List ℕ) (r : TreeAnswer) (n : ℕ) → Promised text old new r → answerOf r ≡ good n → TreeTold text old new n

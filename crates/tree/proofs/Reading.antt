@@ -1,6 +1,6 @@
 -- What each step of reading a tree comes to. Assumes nothing.
 use mathlib.Core.Path.{_≡_, sym, ap, _∙_, subst}
-use Prim.Native.Nat.{ℕ, _+_, _≤_, _<_, min}
+use Prim.Native.Nat.{ℕ, _+_, _≤_, _<_, min, _^_}
 use native.Mathlib.Omega.{arith}
 use mathlib.Core.List.{List, [], _∷_, _++_, append-assoc}
 use mathlib.Core.Bool.{true, false}
@@ -14,7 +14,7 @@ use Rattle.utf8.specs.Utf8.{isUtf8}
 use Rattle.item.specs.Tree.{Yaml}
 use Rattle.item.specs.Encode.{encode}
 use Rattle.lines.specs.Lines.{Line, significantLines}
-use Rattle.lines.specs.Table.{tableLines, Filled, Agrees}
+use Rattle.lines.specs.Table.{tableLines, Filled, AgreesLines}
 use Rattle.lines.specs.declared.LinesAnswer.{LinesAnswer}
 use Rattle.lines.specs.declared.LinesAnswer.the-variants.{Read as Lined, Refused as Unlined}
 use Rattle.lines.proofs.Ends.{ready}
@@ -60,21 +60,21 @@ module _ (work : ℕ) (text : List ℕ) where
       unfolding tree admitted _>>=_ _>>_ ensure
       tree-unlined z e = rw (le-leb (length text) 65535 h, u, e)
 
-      pub tree-lined : (ls : List Line) → significantLines text ≡ good ls → work ≤ 1048576 → tree work text ≡ treeOf work ls
+      pub tree-lined : (ls : List Line) → significantLines text ≡ good ls → work ≤ 2 ^ 20 → tree work text ≡ treeOf work ls
       unfolding tree admitted _>>=_ _>>_ ensure
-      tree-lined ls e k = let m : min work 1048576 ≡ work = omega arith in rw (le-leb (length text) 65535 h, u, e, m)
+      tree-lined ls e k = let m : min work (2 ^ 20) ≡ work = omega arith in rw (le-leb (length text) 65535 h, u, e, m)
 
-  pub tree-counted : tree (min work 1048576) text ≡ tree work text
+  pub tree-counted : tree (min work (2 ^ 20)) text ≡ tree work text
   unfolding tree
-  tree-counted = let m : min (min work 1048576) 1048576 ≡ min work 1048576 = omega arith in rw m
+  tree-counted = let m : min (min work (2 ^ 20)) (2 ^ 20) ≡ min work (2 ^ 20) = omega arith in rw m
 
 -- what the answer on the lines says in each arm of a `match` on it
-module _ (text table : List ℕ) (r : LinesAnswer) (w : Agrees text table r) where
+module _ (text table : List ℕ) (r : LinesAnswer) (w : AgreesLines text table r) where
   pub lines-read : (n : ℕ) → r ≡ Lined n → Filled text table n
-  lines-read n e = subst (Agrees text table) e w
+  lines-read n e = subst (AgreesLines text table) e w
 
   pub lines-stopped : (z : Refusal) → r ≡ Unlined z → significantLines text ≡ refusal z
-  lines-stopped z e = subst (Agrees text table) e w
+  lines-stopped z e = subst (AgreesLines text table) e w
 
 pub agrees-tree : (x y : Answer Yaml) (old new : List ℕ) (r : TreeAnswer) → x ≡ y → AgreesTree y old new r → AgreesTree x old new r
 agrees-tree x y old new (Read n) e w = record { tree = w .tree; is = e ∙ w .is; stored = w .stored; size = w .size; fits = w .fits }
@@ -88,7 +88,7 @@ module _ (x : Answer Yaml) (old new : List ℕ) (r : TreeAnswer) (w : AgreesTree
   pub tree-stopped : (z : Refusal) → r ≡ Refused z → x ≡ refusal z
   tree-stopped z e = subst (AgreesTree x old new) e w
 
-pub read-lined : (text table old new : List ℕ) (count n : ℕ) → length text ≤ 65535 → length table ≡ 8192 → isUtf8 text ≡ true → length old ≤ 1048576 → Filled text table count
+pub read-lined : (text table old new : List ℕ) (count n : ℕ) → length text ≤ 65535 → length table ≡ 8192 → isUtf8 text ≡ true → length old ≤ 2 ^ 20 → Filled text table count
     → WroteTree (treeOf (length old) (tableLines text table count)) old new n → WroteLined (tree (length old) text) text table old new n count
 read-lined text table old new count n h k u m f w =
     let e : tree (length old) text ≡ treeOf (length old) (tableLines text table count) = tree-lined (length old) text h u (tableLines text table count) (f .lines) m in
@@ -119,10 +119,10 @@ agrees-plain x text table old new (Unread e) w = w
 -- ---- the work bytes
 
 -- the tree of as many of them as count is the tree
-pub same-work : (text old new : List ℕ) (n : ℕ) → n ≡ min (length old) 1048576 → (r : TreeAnswer) → AgreesTree (tree (length (take n old)) text) (take n old) new r
+pub same-work : (text old new : List ℕ) (n : ℕ) → n ≡ min (length old) (2 ^ 20) → (r : TreeAnswer) → AgreesTree (tree (length (take n old)) text) (take n old) new r
     → AgreesTree (tree (length old) text) (take n old) new r
 same-work text old new n e r w =
-    let k : length (take n old) ≡ min (length old) 1048576 = length-take-le n old (omega arith) ∙ e in
+    let k : length (take n old) ≡ min (length old) (2 ^ 20) = length-take-le n old (omega arith) ∙ e in
     agrees-tree _ _ (take n old) new r (sym (tree-counted (length old) text) ∙ ap (λ (m : ℕ). tree m text) (sym k)) w
 
 -- the first `n` of them were lent

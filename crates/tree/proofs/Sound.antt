@@ -1,6 +1,6 @@
 -- What holds of every tree that is read from a text. Assumes nothing.
 use mathlib.Core.Path.{_≡_}
-use Prim.Native.Nat.{ℕ, _≤_, min}
+use Prim.Native.Nat.{ℕ, _≤_, min, _^_}
 use native.Mathlib.Omega.{arith}
 use mathlib.Core.List.{List}
 use lib.Dec.{leb}
@@ -30,16 +30,16 @@ admitted-utf8 text x e = bound′ (ensure (leb (length text) 65535) 1 0 0) _ x e
 
 module _ (work : ℕ) (text : List ℕ) (y : Yaml) (e : tree work text ≡ good y) where
   -- a tree is the block of the text's lines
-  read : {X : Type 0} → ((ls : List Line) (g : Yaml × ℕ × List Line) → Lines ls → block (min work 1048576) 32 0 ls ≡ good g → g .0 ≡ y → X) → X
+  read : {X : Type 0} → ((ls : List Line) (g : Yaml × ℕ × List Line) → Lines ls → block (min work (2 ^ 20)) 32 0 ls ≡ good g → g .0 ≡ y → X) → X
   unfolding tree treeOf _>>_
   read k = bound (admitted text) _ y e
       λ x a p. bound (significantLines text) _ y p
-      λ ls l p. bound (block (min work 1048576) 32 0 ls) _ y p
+      λ ls l p. bound (block (min work (2 ^ 20)) 32 0 ls) _ y p
       λ g b p. bound′ (nothingLeft (g .2)) _ y p
       λ p. k ls g (lines-utf8 text ls (admitted-utf8 text x a) l) b (good-inj _ _ p)
 
   pub tree-sound : Sound y
-  tree-sound = read λ ls g u b q. rw (← q) (block-fine (min work 1048576) 32 0 ls g u b .tree)
+  tree-sound = read λ ls g u b q. rw (← q) (block-fine (min work (2 ^ 20)) 32 0 ls g u b .tree)
 
   -- the collections nest at most 32 deep
   pub tree-levels : levels y ≤ 32
@@ -58,5 +58,5 @@ module _ (work : ℕ) (text : List ℕ) (y : Yaml) (e : tree work text ≡ good 
   tree-integers = tree-sound .integers
 
   -- what the tree is written as has room in the work, and takes at most 1,048,576 bytes
-  pub tree-size : length (encode y) ≤ min work 1048576
-  tree-size = read λ ls g u b q. rw (← q) (omega (arith, block-fine (min work 1048576) 32 0 ls g u b .sum, block-sum (min work 1048576) 32 0 ls g b))
+  pub tree-size : length (encode y) ≤ min work (2 ^ 20)
+  tree-size = read λ ls g u b q. rw (← q) (omega (arith, block-fine (min work (2 ^ 20)) 32 0 ls g u b .sum, block-sum (min work (2 ^ 20)) 32 0 ls g b))

@@ -1,7 +1,8 @@
--- What the readers inside the job promise. Assumes nothing.
+-- Sections 1 to 3 of document 01, for contracts: what the readers inside the job promise. Uses Base and Told of `refusal`; Tree and Encode
+-- of `item`; Lines, Table and Ready of `lines`; Tree of this crate. Assumes nothing.
 use mathlib.Core.Path.{_≡_}
 use Prim.Native.Nat.{ℕ, _≤_}
-use mathlib.Core.List.{List, _++_}
+use mathlib.Core.List.{List}
 use lib.ListN.{length}
 use lib.Seq.{sets}
 use Rattle.refusal.specs.Base.{Answer, good}

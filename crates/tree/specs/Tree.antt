@@ -1,9 +1,10 @@
--- The tree of a whole text, or its refusal: sections 1 to 3 of document 01 in their order. Assumes nothing.
+-- Sections 1 to 3 of document 01 in their order: the tree of a whole text, or its refusal. Uses Base and Told of `refusal`; Utf8 of `utf8`;
+-- Tree and Encode of `item`; Lines of `lines`; Block of `block`. Assumes nothing.
 use Prim.Native.Nat.{ℕ, min}
 use mathlib.Core.List.{List, [], _∷_, _++_}
 use lib.Dec.{leb}
 use lib.ListN.{length, drop, replicate}
-use Rattle.refusal.specs.Base.{Answer, good, refused, _>>=_, _>>_, ensure}
+use Rattle.refusal.specs.Base.{Answer, good, refused, _>>=_, _>>_, ensure, limit}
 use Rattle.utf8.specs.Utf8.{isUtf8}
 use Rattle.item.specs.Tree.{Yaml}
 use Rattle.item.specs.Encode.{encode}
@@ -36,7 +37,7 @@ unfoldable pub tree : ℕ → List ℕ → Answer Yaml
 tree work text = do
   admitted text
   ls ← significantLines text
-  treeOf (min work 1048576) ls
+  treeOf (min work limit) ls
 
 -- ---- what is told and left
 
@@ -54,7 +55,3 @@ sizeOf (refused k l s) = refused k l s
 unfoldable pub left : Answer Yaml → List ℕ → List ℕ
 left (good y) old = encode y ++ drop (length (encode y)) old
 left (refused k l s) old = replicate (length old) 0
-
-unfoldable pub Tree-open : Unit {0}
-unfolding admitted nothingLeft treeOf tree sizeOf left
-Tree-open = tt

@@ -1,6 +1,6 @@
 // The first job: the tree of a whole text (document 01, sections 1 to 3).
 ghost use mathlib.Core.Path.{_≡_};
-ghost use Prim.Native.Nat.{_≤_, min};
+ghost use Prim.Native.Nat.{_≤_, min, _^_};
 ghost use lib.ListN.{length};
 ghost use Rattle.lines.specs.Table.{tableLines};
 ghost use Rattle.lines.specs.Ready.{Ready};
@@ -8,13 +8,18 @@ ghost use Rattle.tree.specs.Tree as definition;
 ghost use Rattle.tree.specs.Contract.{AgreesTree, AgreesRead};
 ghost use Rattle.tree.specs.Tree.{answerOf, sizeOf, left};
 use block::block;
+use item::LIMIT;
 use item::zero_bytes;
 use lines::LinesAnswer;
+use lines::TABLE;
 use lines::entry_at;
 use lines::read_lines;
 use literal::BlockRead;
 use refusal::Refusal;
 use utf8::is_utf8;
+
+// The most bytes that a text may have.
+const LONGEST: usize = 65535;
 
 // What reading a tree answers: the bytes that it takes.
 pub enum TreeAnswer {
@@ -28,19 +33,19 @@ pub enum TreeRead {
     Refused(Refusal),
 }
 
-// How many bytes of a lent output count.
-fn counted(len: usize) -> usize
-    ensures { λ r. ⌜ r ≡ min len 1048576 ⌝ }
+// How many places of a lent output count.
+pub fn counted(len: usize, most: usize) -> usize
+    ensures { λ r. ⌜ r ≡ min len most ⌝ }
 {
-    if len > 1048576 {
-        return 1048576;
+    if len > most {
+        return most;
     }
     len
 }
 
 // The value of all lines.
 fn tree_of(text: &[u8], table: &[u16], count: usize, out: &mut [u8]) -> TreeAnswer
-    requires { ⌜ Ready (now text) (now table) count × (length (now out) ≤ 1048576) ⌝ }
+    requires { ⌜ Ready (now text) (now table) count × (length (now out) ≤ 2 ^ 20) ⌝ }
     ensures { λ r. ⌜ AgreesTree (definition.treeOf (length (now (out .entry)))
         (tableLines (now (text .entry)) (now (table .entry)) count)) (now (out .entry)) (now (out .exit)) r ⌝ }
 {
@@ -57,12 +62,12 @@ fn tree_of(text: &[u8], table: &[u16], count: usize, out: &mut [u8]) -> TreeAnsw
 }
 
 // The tree of a text, and the table of its lines.
-pub fn read_with(text: &[u8], table: &mut [u16; 8192], out: &mut [u8]) -> TreeRead
-    requires { ⌜ length (now out) ≤ 1048576 ⌝ }
+pub fn read_with(text: &[u8], table: &mut [u16; TABLE], out: &mut [u8]) -> TreeRead
+    requires { ⌜ length (now out) ≤ 2 ^ 20 ⌝ }
     ensures { λ r. ⌜ AgreesRead (definition.tree (length (now (out .entry))) (now (text .entry))) (now (text .entry)) (now (table .exit))
         (now (out .entry)) (now (out .exit)) r ⌝ }
 {
-    if text.len() > 65535 {
+    if text.len() > LONGEST {
         return TreeRead::Refused(Refusal::TextTooLong);
     }
     if !is_utf8(text) {
@@ -83,8 +88,8 @@ pub fn read_tree(text: &[u8], work: &mut [u8]) -> TreeAnswer
     ensures bytes { λ r. ⌜ now (work .exit) ≡ left (definition.tree (length (now (work .entry))) (now (text .entry)))
         (now (work .entry)) ⌝ }
 {
-    let mut table = [0u16; 8192];
-    let n = counted(work.len());
+    let mut table = [0u16; TABLE];
+    let n = counted(work.len(), LIMIT);
     match read_with(text, &mut table, &mut work[..n]) {
         TreeRead::Done { bytes, count: _ } => TreeAnswer::Read { bytes },
         TreeRead::Refused(e) => {

@@ -4,10 +4,11 @@ use mathlib.Core.Path.{_≡_, refl}
 use mathlib.Core.List.{[], _∷_, map}
 use mathlib.Core.Bool.{true, false}
 use Prim.Native.Nat.{ℕ}
-use Rattle.refusal.specs.Base.{Base-open}
-use Rattle.utf8.specs.Utf8.{isUtf8, Utf8-open}
-use Rattle.utf8.specs.Points.{encode, Points-open}
-use Rattle.utf8.specs.White.{whiteLen, trim, White-open}
+use Rattle.refusal.proofs.Open.{Base-open}
+use Rattle.utf8.specs.Utf8.{isUtf8}
+use Rattle.utf8.proofs.Open.{Utf8-open, Points-open, White-open}
+use Rattle.utf8.specs.Points.{encode}
+use Rattle.utf8.specs.White.{whiteLen, trim}
 
 abbrev white : ℕ → ℕ
 white c = whiteLen (encode c)

@@ -206,7 +206,18 @@ module _ (w : ℕ) (ws : List ℕ) (k : ℕ) (e : whiteAt w ws ≡ some k) where
   no-third : (a b : ℕ) → white3 a b w ≡ false
   unfolding white3 in2000
   no-third a b =
-      rw (other 0x80 (omega arith) (omega arith), off (0x80 ‥ 0x8a) (omega arith) (omega arith), off (0xa8 ‥ 0xa9) (omega arith) (omega arith), other 0xaf (omega arith) (omega arith), other 0x9f (omega arith) (omega arith), and-false (eqb a 0xe1 && eqb b 0x9a), and-false (eqb a 0xe2 && eqb b 0x80), and-false (eqb a 0xe2 && eqb b 0x81), and-false (eqb a 0xe3 && eqb b 0x80))
+      rw (
+        other 0x80 (omega arith) (omega arith),
+        off (0x80 ‥ 0x8a) (omega arith) (omega arith),
+        off (0xa8 ‥ 0xa9) (omega arith) (omega arith),
+        other 0xaf
+            (omega arith) (omega arith),
+        other 0x9f (omega arith) (omega arith),
+        and-false (eqb a 0xe1 && eqb b 0x9a),
+        and-false (eqb a 0xe2 && eqb b 0x80),
+        and-false (eqb a 0xe2 && eqb b 0x81),
+        and-false (eqb a 0xe3 && eqb b 0x80),
+      )
 
   -- a character behind a text takes no part in the characters before it
   pub white-apart : (a : ℕ) (s : List ℕ) → whiteAt a (s ++ w ∷ ws) ≡ whiteAt a s

@@ -8,3 +8,4 @@ pub mod TrimLaws
 pub mod Utf8Laws
 pub mod Utf8Points
 pub mod WhitePoints
+pub mod Open

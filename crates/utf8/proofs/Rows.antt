@@ -15,8 +15,8 @@ use Rattle.utf8.specs.Utf8.{Range, _‥_, tail, table, tailsOf, utf8From
 use Rattle.utf8.proofs.Ranges.{inside, below, above}
 use Rattle.utf8.proofs.TableLaws.{in-row, no-row, past-rows}
 use Rattle.utf8.specs.Contract.{dueOf, onOf, goesOn, Follows}
-use Rattle.utf8.specs.declared.Step.{Step}
-use Rattle.utf8.specs.declared.Step.the-variants.{Bad}
+use Rattle.utf8.specs.declared.After.{After}
+use Rattle.utf8.specs.declared.After.the-variants.{Bad}
 
 follows : (b left low high : ℕ) → tailsOf b ≡ some (dueOf left low high) → Follows [] b (onOf left low high)
 unfolding utf8From maybe
@@ -72,7 +72,7 @@ module _ (b : ℕ) where
 
 -- a byte behind the first
 module _ (left low high b : ℕ) where
-  pub next-first : (r : Step) → left ≡ 0 → Follows [] b r → Follows (dueOf left low high) b r
+  pub next-first : (r : After) → left ≡ 0 → Follows [] b r → Follows (dueOf left low high) b r
   next-first r e f = rw e f
 
   pub next-low : (left ≡ 0 → ⊥) → b < low → Follows (dueOf left low high) b Bad
@@ -111,5 +111,5 @@ unfolding utf8From
 ended s at zero low high h = rw (drop-of-length-le s h)
 ended s at (suc left) low high h = rw (drop-of-length-le s h) (sym (eqb·suc-zero left))
 
-pub turned : (s : List ℕ) (at : ℕ) (due : List Range) (r : Step) → at < length s → Follows due (getD s at 0) r → utf8From due (drop at s) ≡ goesOn r (drop (at + 1) s)
+pub turned : (s : List ℕ) (at : ℕ) (due : List Range) (r : After) → at < length s → Follows due (getD s at 0) r → utf8From due (drop at s) ≡ goesOn r (drop (at + 1) s)
 turned s at due r h f = ap (utf8From due) (let e : drop at s ≡ getD s at 0 ∷ drop (at + 1) s = rw (add-one, drop-cons s at 0) in e) ∙ f (drop (at + 1) s)

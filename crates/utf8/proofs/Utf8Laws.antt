@@ -159,7 +159,10 @@ module _ (b : ℕ) where
 
   due3 : (c d : ℕ) → white3 b c d ≡ true → tailsOf b ≡ some (tail ∷ tail ∷ [])
   unfolding white3 within tailsOf table behindIn if_then_else_
-  due3 c d e = if-one (e1 || e2 || f2) e3 e (λ p. if-one (e1 || e2) f2 p (λ q. if-one e1 e2 q (λ r. rw (first-is 0xe1 (eqb c 0x9a) (eqb d 0x80) r)) (λ r. rw (first-is 0xe2 (eqb c 0x80) (in2000 d) r))) (λ r. rw (first-is 0xe2 (eqb c 0x81) (eqb d 0x9f) r))) (λ r. rw (first-is 0xe3 (eqb c 0x80) (eqb d 0x80) r))
+  due3 c d e = if-one (e1 || e2 || f2) e3 e
+      (λ p. if-one (e1 || e2) f2 p
+      (λ q. if-one e1 e2 q (λ r. rw (first-is 0xe1 (eqb c 0x9a) (eqb d 0x80) r)) (λ r. rw (first-is 0xe2 (eqb c 0x80) (in2000 d) r)))
+      (λ r. rw (first-is 0xe2 (eqb c 0x81) (eqb d 0x9f) r))) (λ r. rw (first-is 0xe3 (eqb c 0x80) (eqb d 0x80) r))
     where
       e1 : Bool
       e1 = eqb b 0xe1 && eqb c 0x9a && eqb d 0x80

@@ -4,7 +4,7 @@ use mathlib.Core.Path.{_≡_, refl, sym, ap, subst, _∙_}
 use mathlib.Core.List.{List, [], _∷_, _++_}
 use mathlib.Core.Bool.{Bool, true, false, _&&_, false≢true}
 use mathlib.Core.Option.{Option, none, some}
-use Prim.Native.Nat.{ℕ, zero, suc, _+_, _-_, _*_, _/_, _%_, _≤_, _<_}
+use Prim.Native.Nat.{ℕ, zero, suc, _+_, _-_, _*_, _/_, _%_, _≤_, _<_, _^_}
 use native.Mathlib.Omega.{arith}
 use lib.Dec.{leb}
 use lib.ListN.{length}
@@ -97,12 +97,12 @@ module _ (c : ℕ) (s : List ℕ) where
           rw (high-scalar c (omega arith) (omega arith))
           (of-three a tail b true (six-tail (c / 64)) s c (in-row 5 _ _ a refl refl (omega arith) (omega arith)))
 
-  four-bytes : 0x10000 ≤ c → isUtf8 ((0xf0 + c / 262144) ∷ sixOf (c / 4096) ∷ sixOf (c / 64) ∷ sixOf c ∷ s) ≡ scalar c && isUtf8 s
+  four-bytes : 0x10000 ≤ c → isUtf8 ((0xf0 + c / (2 ^ 18)) ∷ sixOf (c / 4096) ∷ sixOf (c / 64) ∷ sixOf c ∷ s) ≡ scalar c && isUtf8 s
   unfolding table sixOf
   four-bytes h = go (leb c 0x3ffff) (leb c 0xfffff) (leb c 0x10ffff) (leb c 0x13ffff) refl refl refl refl
     where
       a : ℕ
-      a = 0xf0 + c / 262144
+      a = 0xf0 + c / (2 ^ 18)
 
       b : ℕ
       b = sixOf (c / 4096)
@@ -173,10 +173,10 @@ encode-three b d f c s e h k l m n o =
     let z : 0x80 + c % 64 ≡ f = omega arith in
     rw (lt-leb c 0x7f (omega arith), lt-leb c 0x7ff (omega arith), le-leb c 0xffff (omega arith), x, y, z)
 
-encode-four : (b d f g c : ℕ) (s : List ℕ) → c + 63447168 ≡ b * 262144 + d * 4096 + f * 64 + g → 0x10000 ≤ c → 0x80 ≤ d → d ≤ 0xbf → 0x80 ≤ f → f ≤ 0xbf → 0x80 ≤ g → g ≤ 0xbf → encode c ++ s ≡ b ∷ d ∷ f ∷ g ∷ s
+encode-four : (b d f g c : ℕ) (s : List ℕ) → c + 63447168 ≡ b * 2 ^ 18 + d * 4096 + f * 64 + g → 0x10000 ≤ c → 0x80 ≤ d → d ≤ 0xbf → 0x80 ≤ f → f ≤ 0xbf → 0x80 ≤ g → g ≤ 0xbf → encode c ++ s ≡ b ∷ d ∷ f ∷ g ∷ s
 unfolding encode if_then_else_ sixOf
 encode-four b d f g c s e h l m n o p q =
-    let x : 0xf0 + c / 262144 ≡ b = omega arith in
+    let x : 0xf0 + c / (2 ^ 18) ≡ b = omega arith in
     let y : 0x80 + c / 4096 % 64 ≡ d = omega arith in
     let z : 0x80 + c / 64 % 64 ≡ f = omega arith in
     let w : 0x80 + c % 64 ≡ g = omega arith in
@@ -237,7 +237,7 @@ module _ (b : ℕ) where
       let p = in-range r d (u .0) in
       let q = in-range tail f (v .0) in
       let w = in-range tail g (if-both (within tail g) (utf8From [] t) (v .1) .0) in
-      let c = b * 262144 + d * 4096 + f * 64 + g - 63447168 in
+      let c = b * 2 ^ 18 + d * 4096 + f * 64 + g - 63447168 in
       record { point = c; rest = t; whole = encode-four b d f g c t (omega arith) (omega arith) (omega arith) (omega arith) (q .0) (q .1) (w .0) (w .1); less = omega arith }
 
   -- what the row of the first byte says of the rest

@@ -3,7 +3,7 @@
 use mathlib.Core.Path.{_≡_, refl, sym, _∙_}
 use mathlib.Core.List.{List, [], _∷_, _++_}
 use mathlib.Core.Bool.{Bool, true, false, _&&_, _||_, false≢true}
-use Prim.Native.Nat.{ℕ, _+_, _/_, _%_, _≤_, _<_}
+use Prim.Native.Nat.{ℕ, _+_, _/_, _%_, _≤_, _<_, _^_}
 use native.Mathlib.Omega.{arith}
 use lib.Dec.{leb, eqb}
 use lib.ListN.{length, drop}
@@ -178,7 +178,20 @@ module _ (c : ℕ) where
 
   four-bytes : 0x10000 ≤ c → whitePoint c ≡ false
   unfolding whitePoint whitePoints inAny
-  four-bytes h = rw (above (0x9 ‥ 0xd) c (omega arith), above (0x20 ‥ 0x20) c (omega arith), above (0x85 ‥ 0x85) c (omega arith), above (0xa0 ‥ 0xa0) c (omega arith), above (0x1680 ‥ 0x1680) c (omega arith), above (0x2000 ‥ 0x200a) c (omega arith), above (0x2028 ‥ 0x2029) c (omega arith), above (0x202f ‥ 0x202f) c (omega arith), above (0x205f ‥ 0x205f) c (omega arith), above (0x3000 ‥ 0x3000) c (omega arith))
+  four-bytes h = rw (
+    above (0x9 ‥ 0xd) c (omega arith),
+    above (0x20 ‥ 0x20) c (omega arith),
+    above (0x85 ‥ 0x85) c (omega arith),
+    above (0xa0 ‥ 0xa0) c
+        (omega arith),
+    above (0x1680 ‥ 0x1680) c (omega arith),
+    above (0x2000 ‥ 0x200a) c (omega arith),
+    above (0x2028 ‥ 0x2029) c (omega arith),
+    above
+        (0x202f ‥ 0x202f) c (omega arith),
+    above (0x205f ‥ 0x205f) c (omega arith),
+    above (0x3000 ‥ 0x3000) c (omega arith),
+  )
 
 pub white-encode : (c : ℕ) (s : List ℕ) → whiteLen (encode c ++ s) ≡ (if whitePoint c then length (encode c) else 0)
 unfolding encode if_then_else_
@@ -200,5 +213,5 @@ white-encode c s = go (leb c 0x7f) (leb c 0x7ff) (leb c 0xffff) refl refl refl
         rw (p, q, r) (len-three a (omega arith) (sixOf (c / 64)) (not-two a (λ e. omega arith) (sixOf (c / 64))) (sixOf c) s ∙ rw (three-bytes c (omega arith) (omega arith)))
     go false false false p q r =
         let h : 0xffff < c = leb-false c 0xffff r in
-        let a = 0xf0 + c / 262144 in
+        let a = 0xf0 + c / (2 ^ 18) in
         rw (p, q, r, four-bytes c (omega arith)) (len-one a (not-two a (λ e. omega arith)) (not-three a (λ e. omega arith) (λ e. omega arith) (λ e. omega arith)) _ ∙ rw (not-one a (omega arith)))

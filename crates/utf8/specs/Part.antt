@@ -1,4 +1,4 @@
--- A part of a text. Assumes nothing.
+-- A part of a text, as the contracts of many crates name it. Uses no other. Assumes nothing.
 use Prim.Native.Nat.{ℕ, _-_}
 use mathlib.Core.List.{List}
 use lib.ListN.{take, drop}

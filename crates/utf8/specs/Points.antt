@@ -1,5 +1,6 @@
--- Code points: their UTF-8 (RFC 3629, section 3), and those that are white space (document 01, section 1). Assumes nothing.
-use Prim.Native.Nat.{ℕ, _+_, _/_, _%_}
+-- RFC 3629, section 3, and section 1 of document 01: code points, their UTF-8, and those that are white space. Uses Base of `refusal`; Utf8
+-- of this crate. Assumes nothing.
+use Prim.Native.Nat.{ℕ, _+_, _/_, _%_, _^_}
 use mathlib.Core.List.{List, [], _∷_}
 use mathlib.Core.Bool.{Bool, false, _||_}
 use lib.Dec.{leb}
@@ -16,7 +17,7 @@ encode c =
     if leb c 0x7f then c ∷ []
     else if leb c 0x7ff then (0xc0 + c / 64) ∷ sixOf c ∷ []
     else if leb c 0xffff then (0xe0 + c / 4096) ∷ sixOf (c / 64) ∷ sixOf c ∷ []
-    else (0xf0 + c / 262144) ∷ sixOf (c / 4096) ∷ sixOf (c / 64) ∷ sixOf c ∷ []
+    else (0xf0 + c / (2 ^ 18)) ∷ sixOf (c / 4096) ∷ sixOf (c / 64) ∷ sixOf c ∷ []
 
 unfoldable pub inAny : List Range → ℕ → Bool
 inAny [] c = false
@@ -43,7 +44,3 @@ whitePoints =
 
 unfoldable pub whitePoint : ℕ → Bool
 whitePoint c = inAny whitePoints c
-
-unfoldable pub Points-open : Unit {0}
-unfolding sixOf encode inAny scalar whitePoints whitePoint
-Points-open = tt

@@ -1,5 +1,5 @@
--- UTF-8 as RFC 3629, section 4, defines it: the table of well-formed sequences, and the texts made of them.
--- Utf8Points shows that these are the texts that the bit layout of its section 3 encodes. Assumes nothing.
+-- RFC 3629, section 4: UTF-8 as the table of well-formed sequences, and the texts made of them. Utf8Points of proofs/ shows that these are
+-- the texts that the bit layout of its section 3 encodes. Uses Base of `refusal`. Assumes nothing.
 use mathlib.Core.Path.{_≡_}
 use Prim.Native.Nat.{ℕ}
 use mathlib.Core.List.{List, [], _∷_}
@@ -71,7 +71,3 @@ isUtf8 text = utf8From [] text
 
 abbrev pub Utf8 : List ℕ → Type 0
 Utf8 text = isUtf8 text ≡ true
-
-unfoldable pub Utf8-open : Unit {0}
-unfolding within table behindIn tailsOf utf8From isUtf8
-Utf8-open = tt

@@ -1,5 +1,6 @@
--- White space (document 01, section 1) in UTF-8, and texts trimmed of it. A text is any list of bytes, UTF-8 or not. WhitePoints
--- shows that the tests of bytes below are document 01's list of code points. Assumes nothing.
+-- Section 1 of document 01: white space in UTF-8, and texts trimmed of it. A text is any list of bytes, UTF-8 or not. WhitePoints of
+-- proofs/ shows that the tests of bytes below are document 01's list of code points. Uses Base of `refusal`; Utf8 of this crate. Assumes
+-- nothing.
 use Prim.Native.Nat.{ℕ, zero, suc}
 use mathlib.Core.List.{List, [], _∷_}
 use mathlib.Core.Bool.{Bool, _&&_, _||_}
@@ -66,7 +67,3 @@ trimEnd (b ∷ bs) = if allWhite (b ∷ bs) then [] else b ∷ trimEnd bs
 -- a text without the white space at both ends
 unfoldable pub trim : List ℕ → List ℕ
 trim s = trimEnd (trimStart s)
-
-unfoldable pub White-open : Unit {0}
-unfolding white1 white2 in2000 white3 whiteAt whiteLen leadingFrom leading trimStart allWhite trimEnd trim
-White-open = tt

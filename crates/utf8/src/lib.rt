@@ -17,26 +17,26 @@ struct Due {
 }
 
 // What a byte leads to: more that must come, or no UTF-8.
-enum Step {
+enum After {
     On(Due),
     Bad,
 }
 
-fn on(left: u8, low: u8, high: u8) -> Step
+fn on(left: u8, low: u8, high: u8) -> After
     ensures { λ r. ⌜ r ≡ onOf left low high ⌝ }
 {
-    Step::On(Due { left, low, high })
+    After::On(Due { left, low, high })
 }
 
 // What must come behind a first byte. ASCII comes first, as most bytes are ASCII.
-fn first(b: u8) -> Step
+fn first(b: u8) -> After
     ensures { λ r. ⌜ Follows [] b r ⌝ }
 {
     if b < 0x80 {
         return on(0, 0x80, 0xbf);
     }
     if b < 0xc2 {
-        return Step::Bad;
+        return After::Bad;
     }
     if b < 0xe0 {
         return on(1, 0x80, 0xbf);
@@ -53,11 +53,11 @@ fn first(b: u8) -> Step
     if b == 0xf4 {
         return on(3, 0x80, 0x8f);
     }
-    Step::Bad
+    After::Bad
 }
 
 // E0 leaves out what two bytes can say, and ED leaves out the surrogates.
-fn first_of_three(b: u8) -> Step
+fn first_of_three(b: u8) -> After
     requires { ⌜ (0xe0 ≤ b) × (b < 0xf0) ⌝ }
     ensures { λ r. ⌜ Follows [] b r ⌝ }
 {
@@ -70,17 +70,17 @@ fn first_of_three(b: u8) -> Step
     on(2, 0x80, 0xbf)
 }
 
-fn next(d: Due, b: u8) -> Step
+fn next(d: Due, b: u8) -> After
     ensures { λ r. ⌜ Follows (dueOf (d .left) (d .low) (d .high)) b r ⌝ }
 {
     if d.left == 0 {
         return first(b);
     }
     if b < d.low {
-        return Step::Bad;
+        return After::Bad;
     }
     if d.high < b {
-        return Step::Bad;
+        return After::Bad;
     }
     on(d.left - 1, 0x80, 0xbf)
 }
@@ -96,7 +96,7 @@ pub fn is_utf8(text: &[u8]) -> bool
     };
     let mut at = 0;
     while at < text.len() {
-        let Step::On(then) = next(d, text[at]) else {
+        let After::On(then) = next(d, text[at]) else {
             return false;
         };
         d = then;

@@ -17,7 +17,7 @@ use Rattle.item.specs.Decode.{_>>=_, header, unkey, decodeItems, decodeEntries,
 use Rattle.item.proofs.Exact.{got, none≢, entries-inv, decode-exact}
 use Rattle.meaning.specs.Sound.{sound}
 use Rattle.value.specs.Tree.{tree, acceptsItems, acceptsEntries}
-use Rattle.value.specs.Walks.{Read, entriesIn, Onward}
+use Rattle.value.specs.Walks.{ReadAt, entriesIn, Onward}
 
 -- ---- parts
 
@@ -99,7 +99,7 @@ module _ {l : ℕ} {s : List ℕ} {at : ℕ} (w : Items-left l s at) where
       go zero = refl
       go (suc t) = refl
 
-  pub items-next : {to : ℕ} → at < length s → Read (tree l) s at to → Items-left l s to
+  pub items-next : {to : ℕ} → at < length s → ReadAt (tree l) s at to → Items-left l s to
   items-next {to} h r = go (w .turns) (w .enough) (w .whole)
     where
       go : (t : ℕ) → length s - at ≤ t → acceptsItems l s ≡ itemsIn l t (drop at s) → Items-left l s to

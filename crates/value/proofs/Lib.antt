@@ -1,3 +1,4 @@
 pub mod Contents
 pub mod Levels
 pub mod Invariants
+pub mod Open

@@ -1,4 +1,5 @@
--- Sound trees read back from bytes. Assumes nothing.
+-- Section 5 of document 01: sound trees read back from bytes. Uses Base of `refusal`; Tree and Decode of `item`; Sound of `meaning`.
+-- Assumes nothing.
 use Prim.Native.Nat.{ℕ, zero, suc}
 use mathlib.Core.List.{List}
 use mathlib.Core.Bool.{Bool, false}
@@ -29,7 +30,3 @@ acceptsItems levels s = maybe (decodeItems (λ r. decode levels r) (length s) s)
 
 unfoldable pub acceptsEntries : ℕ → List ℕ → Bool
 acceptsEntries levels s = maybe (decodeEntries (λ r. decode levels r) (length s) s) false sound
-
-unfoldable pub Tree-open : Unit {0}
-unfolding tree inside accepts acceptsItems acceptsEntries
-Tree-open = tt

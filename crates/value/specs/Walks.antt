@@ -1,4 +1,5 @@
--- What a walk over bytes answers, by places. Assumes nothing.
+-- Section 5 of document 01, for the contracts inside the crate: what a walk over bytes answers, by places. Uses Base of `refusal`; Decode
+-- of `item`; Sound of `meaning`. Assumes nothing.
 use mathlib.Core.Path.{_≡_}
 use Prim.Native.Nat.{ℕ, suc, _+_, _≤_}
 use mathlib.Core.List.{List}
@@ -12,7 +13,7 @@ use Rattle.value.specs.declared.End.{End}
 use Rattle.value.specs.declared.End.the-variants.{At, Nowhere}
 
 -- what a decoder reads at a place ends at another
-pub record Read {A : Type 0} (f : Decoder A) (s : List ℕ) (at to : ℕ) : Type 0 where
+pub record ReadAt {A : Type 0} (f : Decoder A) (s : List ℕ) (at to : ℕ) : Type 0 where
   pub value : A
   pub is : f (drop at s) ≡ some (value, drop to s)
   pub forward : at + 6 ≤ to
@@ -20,7 +21,7 @@ pub record Read {A : Type 0} (f : Decoder A) (s : List ℕ) (at to : ℕ) : Type
 
 -- the end of what a decoder reads, or that it reads nothing
 abbrev pub Walks : {A : Type 0} → Decoder A → List ℕ → ℕ → End → Type 0
-Walks f s at (At to) = Read f s at to
+Walks f s at (At to) = ReadAt f s at to
 Walks f s at Nowhere = f (drop at s) ≡ none
 
 -- whether sound entries stand up to the end, read in so many turns
@@ -33,6 +34,6 @@ pub record Onward (levels : ℕ) (s : List ℕ) (at to : ℕ) : Type 0 where
   pub forward : at + 6 ≤ to
   pub fits : to ≤ length s
 
-abbrev pub Follows : ℕ → List ℕ → ℕ → End → Type 0
-Follows levels s at (At to) = Onward levels s at to
-Follows levels s at Nowhere = (turns : ℕ) → entriesIn levels (suc turns) (drop at s) ≡ false
+abbrev pub EntryFollows : ℕ → List ℕ → ℕ → End → Type 0
+EntryFollows levels s at (At to) = Onward levels s at to
+EntryFollows levels s at Nowhere = (turns : ℕ) → entriesIn levels (suc turns) (drop at s) ≡ false

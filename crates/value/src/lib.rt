@@ -1,10 +1,10 @@
 // Values as a record holds them: items of kinds 0 to 5 that are trees within the rules of document 01, section 5. The content of
 // an item is lent as a slice of its own; `levels` collections may be open in it, one in another.
 ghost use mathlib.Core.Path.{_≡_};
-ghost use Prim.Native.Nat.{_≤_, _<_};
+ghost use Prim.Native.Nat.{_≤_, _<_, _^_};
 ghost use lib.ListN.{length};
 ghost use Rattle.value.specs.Tree.{tree, accepts, acceptsItems, acceptsEntries};
-ghost use Rattle.value.specs.Walks.{Walks, Follows};
+ghost use Rattle.value.specs.Walks.{Walks, EntryFollows};
 use entries::has_key;
 use item::Header;
 use item::header_at;
@@ -42,7 +42,7 @@ fn scalar(kind: usize, content: &[u8], levels: usize) -> bool
 }
 
 fn items(s: &[u8], levels: usize) -> bool
-    requires { ⌜ length (now s) ≤ 1048576 ⌝ }
+    requires { ⌜ length (now s) ≤ 2 ^ 20 ⌝ }
     ensures { λ r. ⌜ r ≡ acceptsItems levels (now (s .entry)) ⌝ }
 {
     let mut at = 0;
@@ -58,8 +58,8 @@ fn items(s: &[u8], levels: usize) -> bool
 
 // An entry: its key, its value, and no later entry with that key.
 fn entry(s: &[u8], at: usize, levels: usize) -> End
-    requires { ⌜ (at < length (now s)) × (length (now s) ≤ 1048576) ⌝ }
-    ensures { λ r. ⌜ Follows levels (now (s .entry)) at r ⌝ }
+    requires { ⌜ (at < length (now s)) × (length (now s) ≤ 2 ^ 20) ⌝ }
+    ensures { λ r. ⌜ EntryFollows levels (now (s .entry)) at r ⌝ }
 {
     let head = header_at(s, at);
     let Header::Item { kind, from, to } = head else {
@@ -83,7 +83,7 @@ fn entry(s: &[u8], at: usize, levels: usize) -> End
 }
 
 fn entries(s: &[u8], levels: usize) -> bool
-    requires { ⌜ length (now s) ≤ 1048576 ⌝ }
+    requires { ⌜ length (now s) ≤ 2 ^ 20 ⌝ }
     ensures { λ r. ⌜ r ≡ acceptsEntries levels (now (s .entry)) ⌝ }
 {
     let mut at = 0;
@@ -99,7 +99,7 @@ fn entries(s: &[u8], levels: usize) -> bool
 
 // Whether this is the content of a value of this kind.
 fn value(kind: usize, content: &[u8], levels: usize) -> bool
-    requires { ⌜ length (now content) ≤ 1048576 ⌝ }
+    requires { ⌜ length (now content) ≤ 2 ^ 20 ⌝ }
     ensures { λ r. ⌜ r ≡ accepts levels kind (now (content .entry)) ⌝ }
 {
     if kind < 4 {
@@ -119,7 +119,7 @@ fn value(kind: usize, content: &[u8], levels: usize) -> bool
 
 // The end of the value that begins at `at`.
 pub fn value_at(s: &[u8], at: usize, levels: usize) -> End
-    requires { ⌜ length (now s) ≤ 1048576 ⌝ }
+    requires { ⌜ length (now s) ≤ 2 ^ 20 ⌝ }
     ensures { λ r. ⌜ Walks (tree levels) (now (s .entry)) at r ⌝ }
 {
     let head = header_at(s, at);

@@ -18,7 +18,9 @@ use Rattle.item.specs.Tree as Tree
 use Rattle.item.proofs.Same.{same-eq}
 use Rattle.scalar.specs.Scalars.{isDigit, allDigits, decimalFrom, digits, positive, negative, integer, nulls, trues, falses, intOr, scalarOf}
 use Rattle.yaml.specs.Represent.{Rep, asYaml, fits64}
-use Rattle.yaml.specs.Core.{Regex, never, some-of, _·_, _∣_, star, nullable, behind, matches, byte, word, plus, digit, sign, nullText, trueText, falseText, decimalText, octalText, hexText, floatText, digitOf, number, signed, Core, to-null, to-true, to-false, to-decimal, to-octal, to-hex, to-float, to-str}
+use Rattle.yaml.specs.Core.{Regex, never, some-of, _·_, _∣_, star, nullable, behind, matches, byte, word, plus, digit, sign, nullText, trueText}
+use Rattle.yaml.specs.Core.{falseText, decimalText, octalText, hexText, floatText, digitOf, number, signed, Core, to-null, to-true, to-false, to-decimal}
+use Rattle.yaml.specs.Core.{to-octal, to-hex, to-float, to-str}
 use Rattle.yaml.specs.Core as C
 use Rattle.yaml.specs.Kept.{keptCore}
 use Rattle.yaml.proofs.Tests.{is-true, is-false, test, neither, All}

@@ -9,13 +9,14 @@ use mathlib.Core.Option.{Option, some, none}
 use lib.Dec.{T}
 use lib.ListN.{take, drop}
 use lib.IntN.{pos, negsuc}
-use Rattle.refusal.specs.Base.{bytes, Base-open}
-use Rattle.utf8.specs.Utf8.{Utf8-open}
-use Rattle.utf8.specs.Points.{Points-open}
+use Rattle.refusal.specs.Base.{bytes}
+use Rattle.refusal.proofs.Open.{Base-open}
+use Rattle.utf8.proofs.Open.{Utf8-open, Points-open}
 use Rattle.item.specs.Tree as Tree
 use Rattle.yaml.specs.Scalars.{flow-out, flow-in, d-end, d-char, d-escaped, esc-n, s-end, s-char, s-twice}
 use Rattle.yaml.specs.Represent.{Rep, null, bool, int, float, str, seq, map, end, _▸_, done, pair, treeOf}
-use Rattle.yaml.specs.Core.{Core, to-null, to-true, to-false, to-decimal, to-octal, to-hex, to-float, to-str, matches, signed, prefixed, nullText, trueText, falseText, decimalText, octalText, hexText, floatText, _∣_, Core-open}
+use Rattle.yaml.specs.Core.{Core, to-null, to-true, to-false, to-decimal, to-octal, to-hex, to-float, to-str, matches, signed, prefixed, nullText, trueText, falseText, decimalText, octalText, hexText, floatText, _∣_}
+use Rattle.yaml.proofs.Open.{Core-open}
 use Rattle.yaml.specs.Flow.{f-plain, f-quoted, f-seq, f-map, q-double, q-single, s-last, s-more, p-adjacent, p-null}
 use Rattle.yaml.specs.Flow as F
 use Rattle.yaml.specs.Rows.{Row, node, note, body, blank, lf, crlf, eof, c-end, c-more}

@@ -30,7 +30,10 @@ use Rattle.yaml.proofs.Trees.{held, some-eq, fresh, pair-held, scalar-l
 use Rattle.yaml.proofs.Grow.{_⋈_, add-more, none-more, Apart, apart-add, apart-done, _▸▸_, snoc-more, no-more}
 use Rattle.yaml.proofs.CoreLaws.{resolves}
 use Rattle.yaml.proofs.PlainReads.{first-plain, plain-all}
-use Rattle.yaml.proofs.FlowTurns.{Head, head-of, head-long, skip-none, skip-run, skip-not, follows-close, follows-comma, follows-colon, follows-key, Ends, ends-close, ends-comma, Behind, inside, shut, shut-colon, ReadsTo, NodeTo, insideOf, value-node, plain-to, plain-node, quoted-node, inner, items-skip, items-close, last-item, next-item, PairTo, pair-value, pair-null, entries-skip, entries-close, last-pair, next-pair}
+use Rattle.yaml.proofs.FlowTurns.{Head, head-of, head-long, skip-none, skip-run, skip-not, follows-close, follows-comma, follows-colon, follows-key}
+use Rattle.yaml.proofs.FlowTurns.{Ends, ends-close, ends-comma, Behind, inside, shut, shut-colon, ReadsTo, NodeTo, insideOf, value-node, plain-to}
+use Rattle.yaml.proofs.FlowTurns.{plain-node, quoted-node, inner, items-skip, items-close, last-item, next-item, PairTo, pair-value, pair-null}
+use Rattle.yaml.proofs.FlowTurns.{entries-skip, entries-close, last-pair, next-pair}
 
 -- ---- texts put together
 

@@ -25,3 +25,4 @@ pub mod OrdinaryTrims
 pub mod Plains
 pub mod Examples
 pub mod Programmes
+pub mod Open

@@ -1,6 +1,6 @@
 -- A scenario that is YAML means what section 4 of document 01 makes of YAML's tree (`Means`), and what that says of the main job. Assumes nothing.
 use mathlib.Core.Path.{_≡_, refl, ap, _∙_}
-use Prim.Native.Nat.{ℕ, suc, _≤_, min}
+use Prim.Native.Nat.{ℕ, suc, _≤_, min, _^_}
 use mathlib.Core.List.{List, [], _++_}
 use mathlib.Core.Option.{Option, none, some}
 use lib.ListN.{length, drop}
@@ -98,7 +98,7 @@ unfolding Means scenario _>>_ _>>=_ ensure
 means work room places t r y d k e h m q few small =
     let ls = stepLines (linesOf 1 (d .rows)) in (
       record { tree = y; meaning = m; lines = linesFor (m .steps) ls },
-      rw (reading {work = work} y d k e h, meaning-lines [] ls y m q, le-leb (length (m .steps)) (min places 262144) few, le-leb (length (recordOf m)) (min room 1048576) small),
+      rw (reading {work = work} y d k e h, meaning-lines [] ls y m q, le-leb (length (m .steps)) (min places (2 ^ 18)) few, le-leb (length (recordOf m)) (min room (2 ^ 20)) small),
       refl,
       refl,
     )
@@ -106,7 +106,7 @@ means work room places t r y d k e h m q few small =
 -- ---- what the contract of `read_scenario` says of such a text: the record of that meaning is at the front of its buffer
 
 pub recorded : (t work tree room bytes places lines : List ℕ) (a : ScenarioAnswer) → Promised t work tree room bytes places lines a → (r : Option Rep) (y : Yaml) (d : Stream t r) → Kept d → treeOf r ≡ some y
-    → Limits d y (length work) → (m : Meaning) → meaningOf [] y ≡ good m → length (m .steps) ≤ min (length places) 262144 → length (recordOf m) ≤ min (length room) 1048576
+    → Limits d y (length work) → (m : Meaning) → meaningOf [] y ≡ good m → length (m .steps) ≤ min (length places) (2 ^ 18) → length (recordOf m) ≤ min (length room) (2 ^ 20)
     → bytes ≡ recordOf m ++ drop (length (recordOf m)) room
 unfolding Means output recordBytes
 recorded t work tree room bytes places lines a p r y d k e h m q few small =

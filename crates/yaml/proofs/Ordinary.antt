@@ -4,9 +4,10 @@ use Prim.Native.Nat.{ℕ}
 use mathlib.Core.List.{List, [], _∷_, _++_, append-assoc}
 use mathlib.Core.Bool.{Bool, true, false, _||_, not}
 use lib.Dec.{T, eqb, ltb, ltb→lt}
-use Rattle.refusal.specs.Base.{ch, bytes, empty, Base-open}
-use Rattle.utf8.specs.Utf8.{Utf8-open}
-use Rattle.utf8.specs.White.{trimEnd, White-open}
+use Rattle.refusal.specs.Base.{ch, bytes, empty}
+use Rattle.refusal.proofs.Open.{Base-open}
+use Rattle.utf8.proofs.Open.{Utf8-open, White-open}
+use Rattle.utf8.specs.White.{trimEnd}
 use Rattle.yaml.specs.Characters.{among, whites}
 use Rattle.yaml.specs.Scalars.{flow-out, d-end, d-char}
 use Rattle.yaml.specs.Core.{to-str}
@@ -15,7 +16,8 @@ use Rattle.yaml.specs.Flow.{Flow, f-plain, q-double}
 use Rattle.yaml.specs.Rows.{tail}
 use Rattle.yaml.specs.Block.{Chomp, strip, clip, mark}
 use Rattle.yaml.specs.Kept.{starts, keptFlow, keyFound, noKey, cut}
-use Rattle.yaml.specs.Ordinary.{without, flowWithout, noQuotes, noInnerQuotes, last, space, KeyText, k-plain, k-quoted, hashBehindSpace, Quiet, q-plain, q-quoted, q-white, q-mark, q-join, RowText, r-flow, r-entry, r-key, r-literal, r-dash, r-item, Ordinary-open}
+use Rattle.yaml.specs.Ordinary.{without, flowWithout, noQuotes, noInnerQuotes, last, space, KeyText, k-plain, k-quoted, hashBehindSpace, Quiet, q-plain, q-quoted, q-white, q-mark, q-join, RowText, r-flow, r-entry, r-key, r-literal, r-dash, r-item}
+use Rattle.yaml.proofs.Open.{Ordinary-open}
 use Rattle.yaml.proofs.Tests.{and-two}
 use Rattle.yaml.proofs.Plains.{is-plain, All-open}
 use Rattle.yaml.proofs.NodeTexts.{node-trim, front-of}

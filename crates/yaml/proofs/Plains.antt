@@ -5,23 +5,15 @@ use mathlib.Core.List.{List, [], _∷_}
 use mathlib.Core.Bool.{Bool, true, false, _&&_, _||_, not}
 use lib.Dec.{T, eqb}
 use borrow.Author.Tests.{eqb-true}
-use Rattle.refusal.specs.Base.{if_then_else_, ch, empty, Base-open}
-use Rattle.yaml.specs.Scalars.{Context, plainFirst, plainChar, PlainRest, p-end, p-char, p-space, p-tab, Plain, plain, Scalars-open as Texts-open}
+use Rattle.refusal.specs.Base.{if_then_else_, ch, empty}
+use Rattle.refusal.proofs.Open.{Base-open}
+use Rattle.yaml.specs.Scalars.{Context, plainFirst, plainChar, PlainRest, p-end, p-char, p-space, p-tab, Plain, plain}
+use Rattle.yaml.proofs.Open.{Scalars-open as Texts-open, Characters-open, Represent-open, Core-open, Flow-open, Rows-open, Block-open, Kept-open}
 use Rattle.yaml.proofs.Tests.{and-two}
-use Rattle.utf8.specs.Utf8.{Utf8-open}
-use Rattle.utf8.specs.Points.{Points-open}
-use Rattle.utf8.specs.White.{White-open}
-use Rattle.item.specs.Tree.{Tree-open}
-use Rattle.scalar.specs.Scalars.{Scalars-open}
-use Rattle.scalar.specs.Key.{Key-open}
-use Rattle.lines.specs.Lines.{Lines-open}
-use Rattle.yaml.specs.Characters.{Characters-open}
-use Rattle.yaml.specs.Represent.{Represent-open}
-use Rattle.yaml.specs.Core.{Core-open}
-use Rattle.yaml.specs.Flow.{Flow-open}
-use Rattle.yaml.specs.Rows.{Rows-open}
-use Rattle.yaml.specs.Block.{Block-open}
-use Rattle.yaml.specs.Kept.{Kept-open}
+use Rattle.utf8.proofs.Open.{Utf8-open, Points-open, White-open}
+use Rattle.item.proofs.Open.{Tree-open}
+use Rattle.scalar.proofs.Open.{Scalars-open, Key-open}
+use Rattle.lines.proofs.Open.{Lines-open}
 
 unfoldable pub plainRest : Context → ℕ → List ℕ → Bool
 plainRest c a [] = true

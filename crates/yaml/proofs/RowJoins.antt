@@ -8,7 +8,9 @@ use Rattle.lines.specs.Lines.{Line, line}
 use Rattle.yaml.specs.Characters.{spaces}
 use Rattle.yaml.specs.Represent.{Graph, Rep}
 use Rattle.yaml.specs.Rows.{Break, Row, node, note, body, blank, Comments, c-end, c-more}
-use Rattle.yaml.specs.Block.{Chomp, mark, Blanks, l-none, l-empty, Lines, l-text, l-last, l-next, Trail, t-none, t-blank, t-comment, Literal, l-lines, l-nothing, Block, b-flow, b-seq, b-map, Items, i-last, i-more, Item, i-flow, i-null, i-block, i-map, Pairs, Entry, e-flow, e-null, e-block, e-literal}
+use Rattle.yaml.specs.Block.{Chomp, mark, Blanks, l-none, l-empty, Lines, l-text, l-last, l-next, Trail, t-none, t-blank, t-comment, Literal, l-lines}
+use Rattle.yaml.specs.Block.{l-nothing, Block, b-flow, b-seq, b-map, Items, i-last, i-more, Item, i-flow, i-null, i-block, i-map, Pairs, Entry, e-flow}
+use Rattle.yaml.specs.Block.{e-null, e-block, e-literal}
 use Rattle.yaml.specs.Block as B
 use Rattle.yaml.proofs.Parts.{nextBody, linesOf}
 use Rattle.yaml.proofs.LiteralReads.{next-body}

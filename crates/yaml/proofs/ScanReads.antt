@@ -24,7 +24,9 @@ use Rattle.yaml.proofs.Whites.{white-byte}
 use Rattle.yaml.specs.Represent.{Graph, Rep}
 use Rattle.yaml.specs.Flow.{Quoted, q-double, q-single, Flow, f-plain, f-quoted, f-seq, f-map}
 use Rattle.yaml.specs.Rows.{Break, Row, node, note, body, blank, raw, commentLine, tail, Comments, c-end, c-more}
-use Rattle.yaml.specs.Block.{Chomp, mark, Blanks, l-none, l-empty, Lines, l-text, l-last, l-next, Trail, t-none, t-blank, t-comment, Literal, l-lines, l-nothing, Key, key, Block, b-flow, b-seq, b-map, Items, i-last, i-more, Item, i-flow, i-null, i-block, i-map, Pairs, Entry, e-flow, e-null, e-block, e-literal, Document, d-none, d-one}
+use Rattle.yaml.specs.Block.{Chomp, mark, Blanks, l-none, l-empty, Lines, l-text, l-last, l-next, Trail, t-none, t-blank, t-comment, Literal, l-lines}
+use Rattle.yaml.specs.Block.{l-nothing, Key, key, Block, b-flow, b-seq, b-map, Items, i-last, i-more, Item, i-flow, i-null, i-block, i-map, Pairs, Entry}
+use Rattle.yaml.specs.Block.{e-flow, e-null, e-block, e-literal, Document, d-none, d-one}
 use Rattle.yaml.specs.Block as B
 use Rattle.yaml.specs.Kept.{keptFlow, keptKey, keptBlock, keptSeq, keptItem, keptMap, keptEntry, keptDocument, starts, closed, under, gap, opened, cut, trimmed, inner, keptRows}
 use Rattle.yaml.proofs.Parts.{nextBody, linesOf, raws, asEvents, Scans}

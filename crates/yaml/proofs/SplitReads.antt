@@ -12,7 +12,9 @@ use Rattle.refusal.specs.Base.{if_then_else_, ch, bytes, empty}
 use Rattle.item.specs.Tree.{many, keyed}
 use Rattle.lines.specs.Lines.{beginsNewline, prepend, splitLines}
 use Rattle.yaml.specs.Characters.{nsChar, nbChar, among, white, whites, nbChars, spaces}
-use Rattle.yaml.specs.Scalars.{Context, flow-out, flow-in, plainSafe, safeNext, plainFirst, plainChar, PlainRest, p-end, p-char, p-space, p-tab, Plain, plain, Escape, esc-n, esc-t, esc-r, esc-0, esc-quote, esc-back, esc-slash, DoubleText, d-end, d-char, d-escaped, SingleText, s-end, s-char, s-twice}
+use Rattle.yaml.specs.Scalars.{Context, flow-out, flow-in, plainSafe, safeNext, plainFirst, plainChar, PlainRest, p-end, p-char, p-space, p-tab, Plain}
+use Rattle.yaml.specs.Scalars.{plain, Escape, esc-n, esc-t, esc-r, esc-0, esc-quote, esc-back, esc-slash, DoubleText, d-end, d-char, d-escaped}
+use Rattle.yaml.specs.Scalars.{SingleText, s-end, s-char, s-twice}
 use Rattle.yaml.proofs.Tests.{and-two, or-two, differs}
 use Rattle.yaml.proofs.PlainReads.{by-first}
 use Rattle.yaml.proofs.Whites.{white-byte}
@@ -20,7 +22,9 @@ use Rattle.yaml.specs.Represent.{Graph, Rep}
 use Rattle.yaml.specs.Flow.{Quoted, q-double, q-single, Flow, f-plain, f-quoted, f-seq, f-map, FlowItems, s-close, s-last, s-more, FlowPairs, FlowPair, p-value, p-adjacent, p-null}
 use Rattle.yaml.specs.Flow as F
 use Rattle.yaml.specs.Rows.{Break, lf, crlf, eof, Row, node, raw, breakOf, breakText, textOf, isEof, endsLast, commentLine, tail, Comments, c-end, c-more}
-use Rattle.yaml.specs.Block.{Chomp, strip, clip, mark, Blanks, l-none, l-empty, Lines, l-text, l-last, l-next, Trail, t-none, t-blank, t-comment, Literal, l-lines, l-nothing, Key, key, Block, b-flow, b-seq, b-map, Items, i-last, i-more, Item, i-flow, i-null, i-block, i-map, Pairs, Entry, e-flow, e-null, e-block, e-literal, Document, d-none, d-one}
+use Rattle.yaml.specs.Block.{Chomp, strip, clip, mark, Blanks, l-none, l-empty, Lines, l-text, l-last, l-next, Trail, t-none, t-blank, t-comment, Literal}
+use Rattle.yaml.specs.Block.{l-lines, l-nothing, Key, key, Block, b-flow, b-seq, b-map, Items, i-last, i-more, Item, i-flow, i-null, i-block, i-map}
+use Rattle.yaml.specs.Block.{Pairs, Entry, e-flow, e-null, e-block, e-literal, Document, d-none, d-one}
 use Rattle.yaml.specs.Block as B
 use Rattle.yaml.proofs.Parts.{raws, Splits}
 

@@ -1,7 +1,7 @@
 -- The whole: a text that is YAML, that document 01 keeps, and that is within the limits is read as YAML reads it (`Reads`). What it says of
 -- the job, and that no text has two trees. Assumes nothing.
 use mathlib.Core.Path.{_≡_, refl, sym, ap, _∙_, subst}
-use Prim.Native.Nat.{ℕ, zero, suc, _+_, _≤_, min}
+use Prim.Native.Nat.{ℕ, zero, suc, _+_, _≤_, min, _^_}
 use native.Mathlib.Omega.{arith}
 use mathlib.Core.List.{List, [], _∷_, _++_, append-nil}
 use mathlib.Core.Bool.{true, false≢true}
@@ -140,11 +140,11 @@ module _ (t : List ℕ) (r : Option Rep) (d : Stream t r) (k : Kept d) where
 
 -- all its lines are one block
 whole-document : {t : List ℕ} {r : Option Rep} {work : ℕ} (y : Yaml) (d : Stream t r) → Kept d → treeOf r ≡ some y → Limits d y work
-    → block (min work 1048576) 32 0 (linesOf 1 (d .rows)) ≡ good (y, size y, [])
-whole-document {work = work} y d k e h = document (min work 1048576) 32 y (h .shallow) (omega (arith, encode-size y, h .small)) (d .document) (k .document) e 1
+    → block (min work (2 ^ 20)) 32 0 (linesOf 1 (d .rows)) ≡ good (y, size y, [])
+whole-document {work = work} y d k e h = document (min work (2 ^ 20)) 32 y (h .shallow) (omega (arith, encode-size y, h .small)) (d .document) (k .document) e 1
 
 pub whole-tree : {t : List ℕ} {r : Option Rep} {work : ℕ} (y : Yaml) (d : Stream t r) → Kept d → treeOf r ≡ some y → Limits d y work
-    → Whole.treeOf (min work 1048576) (linesOf 1 (d .rows)) ≡ good y
+    → Whole.treeOf (min work (2 ^ 20)) (linesOf 1 (d .rows)) ≡ good y
 unfolding Whole.treeOf nothingLeft _>>_ _>>=_
 whole-tree {work = work} y d k e h = rw (whole-document {work = work} y d k e h)
 

@@ -1,6 +1,6 @@
 -- YAML 1.2.2, chapters 8 and 9: literals, block collections, a stream of at most one bare document, over rows. The numbers in brackets are
--- its productions. Left out are those that document 01 drops whole; docs/DIFFERENCES.md has
--- them with their smallest texts. Assumes nothing.
+-- its productions. Left out are those that document 01 drops whole; docs/DIFFERENCES.md has them with their smallest texts. Uses Base of
+-- `refusal`; Tree of `item`; Scalars, Characters, Represent, Flow and Rows of this crate. Assumes nothing.
 use mathlib.Core.Path.{_≡_}
 use Prim.Native.Nat.{ℕ, suc, _+_, _≤_, _<_}
 use mathlib.Core.List.{List, [], _∷_, _++_}
@@ -131,7 +131,3 @@ pub record Stream (t : List ℕ) (r : Option Rep) : Type 0 where
   pub bare : T (noMarker rows)
   pub printable : Printable t
   pub document : Document rows r
-
-unfoldable pub Block-open : Unit {0}
-unfolding mark chomped shown
-Block-open = tt

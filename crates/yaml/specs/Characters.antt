@@ -1,6 +1,7 @@
 -- YAML 1.2.2, chapter 5: characters. The numbers in brackets are its productions. A text is UTF-8, as bytes. Every character that a
 -- production tells apart is ASCII, so the classes below look at one byte; that no byte is one of another kind of character (a control
--- character, a byte order mark) is `Printable`, which looks at code points. Assumes nothing.
+-- character, a byte order mark) is `Printable`, which looks at code points. Uses Base of `refusal`; Utf8 and Points of `utf8`. Assumes
+-- nothing.
 use mathlib.Core.Path.{_≡_}
 use Prim.Native.Nat.{ℕ, _+_}
 use mathlib.Core.List.{List, [], _∷_, _++_}
@@ -70,7 +71,3 @@ among b (c ∷ cs) = eqb b c || among b cs
 -- [63] s-indent(n)
 abbrev pub spaces : ℕ → List ℕ
 spaces n = replicate n (ch " ")
-
-unfoldable pub Characters-open : Unit {0}
-unfolding printable utf8Of allPrintable characters whites nbChars among
-Characters-open = tt

@@ -1,4 +1,5 @@
--- YAML 1.2.2, 10.3.2: the core schema, by its regular expressions. Assumes nothing.
+-- YAML 1.2.2, 10.3.2: the core schema, by its regular expressions. Uses Base of `refusal`; Utf8 and Points of `utf8`; Represent of this
+-- crate. Assumes nothing.
 use Prim.Native.Nat.{ℕ, _+_, _*_, _-_}
 use mathlib.Core.List.{List, [], _∷_}
 use mathlib.Core.Bool.{Bool, true, false, _&&_, _||_, not}
@@ -128,7 +129,3 @@ pub data Core : List ℕ → Rep → Type 0 where
   to-hex : {t : List ℕ} → T (matches hexText t) → Core t (int (prefixed 16 t))
   to-float : {t : List ℕ} → T (not (matches decimalText t)) → T (matches floatText t) → Core t (float t)
   to-str : {t : List ℕ} → T (not (matches (nullText ∣ trueText ∣ falseText ∣ decimalText ∣ octalText ∣ hexText ∣ floatText) t)) → Core t (str t)
-
-unfoldable pub Core-open : Unit {0}
-unfolding nullable behind matches word nullText trueText falseText decimalText octalText hexText floatText digitOf number signed prefixed
-Core-open = tt

@@ -1,5 +1,5 @@
 -- YAML 1.2.2, chapter 7: flow nodes that stand on one line, without properties and aliases. The numbers in brackets are its productions.
--- Assumes nothing.
+-- Uses Base of `refusal`; Tree of `item`; Characters, Scalars, Represent and Core of this crate. Assumes nothing.
 use mathlib.Core.Path.{_≡_}
 use Prim.Native.Nat.{ℕ, suc}
 use mathlib.Core.List.{List, [], _∷_, _++_}
@@ -51,7 +51,3 @@ mutual
     p-adjacent : {s t u : List ℕ} {k v : Rep} (n : ℕ) → Flow flow-in t k → T (jsonLike t) → Flow flow-in u v
         → s ≡ t ++ (spaces n ++ (ch ":" ∷ u)) → FlowPair s k v
     p-null : {s t : List ℕ} {k : Rep} (n : ℕ) → Flow flow-in t k → s ≡ t ++ (spaces n ++ (ch ":" ∷ [])) → FlowPair s k null
-
-unfoldable pub Flow-open : Unit {0}
-unfolding jsonLike
-Flow-open = tt

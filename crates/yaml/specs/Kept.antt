@@ -1,5 +1,6 @@
 -- Where document 01 parts from YAML 1.2.2 on texts that the grammar has: conditions on a derivation under which they agree. Each names the
--- smallest text that it rules out. Assumes nothing.
+-- smallest text that it rules out. Uses Base of `refusal`; White of `utf8`; Tree of `item`; Lines of `lines`; Key of `scalar`; Scalars,
+-- Represent, Core, Flow, Rows and Block of this crate. Assumes nothing.
 use mathlib.Core.Path.{_≡_}
 use Prim.Native.Nat.{ℕ, _+_, _≤_, _<_}
 use mathlib.Core.List.{List, [], _∷_, _++_}
@@ -167,7 +168,3 @@ keptDocument (d-one c d e) = keptBlock d
 pub record Kept {t : List ℕ} {r : Option Rep} (d : Stream t r) : Type 0 where
   pub document : keptDocument (d .document)
   pub lines : keptRows (d .rows) closed
-
-unfoldable pub Kept-open : Unit {0}
-unfolding keptCore keptFlow keptItems keptPairs keptPair keptLast keptLiteral starts keptKey keyFound noKey keptBlock keptSeq keptItem keptMap keptEntry opened cut trimmed keptRows keptDocument
-Kept-open = tt

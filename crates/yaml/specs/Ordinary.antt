@@ -1,5 +1,5 @@
 -- Ordinary texts, in YAML's words. The proofs of this name show that they meet those conditions of Kept that speak through the reader's
--- functions. Assumes nothing.
+-- functions. Uses Base of `refusal`; Tree of `item`; Characters, Scalars, Represent, Flow, Block and Kept of this crate. Assumes nothing.
 use mathlib.Core.Path.{_≡_}
 use Prim.Native.Nat.{ℕ}
 use mathlib.Core.List.{List, [], _∷_, _++_}
@@ -106,7 +106,3 @@ pub data RowText : List ℕ → Type 0 where
       → s ≡ (k ++ y) ++ (ch ":" ∷ ch " " ∷ x ++ (ch "|" ∷ mark c)) → RowText s
   r-dash : RowText (ch "-" ∷ [])
   r-item : {s t : List ℕ} (x : List ℕ) → T (whites x) → RowText t → s ≡ ch "-" ∷ ch " " ∷ x ++ t → RowText s
-
-unfoldable pub Ordinary-open : Unit {0}
-unfolding without ascii quotedWithout flowWithout itemsWithout pairsWithout pairWithout hashBehindSpace
-Ordinary-open = tt

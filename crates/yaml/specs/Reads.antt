@@ -1,11 +1,13 @@
 -- What is proved of the reader against the grammar. It is no converse: a text that the reader accepts need not be YAML, and a stream with
--- no document is read as null, by document 01 alone. Assumes nothing.
+-- no document is read as null, by document 01 alone. Uses Base of `refusal`; Tree and Encode of `item`; Tree of `tree`; Meaning, Record and
+-- Meanings of `meaning`; Scenario of `scenario`; Represent, Rows, Block and Kept of this crate. Assumes nothing.
 use mathlib.Core.Path.{_≡_}
-use Prim.Native.Nat.{ℕ, suc, _≤_, min}
+use Prim.Native.Nat.{ℕ, suc, _/_, _≤_, min}
 use mathlib.Core.List.{List, [], _∷_}
 use mathlib.Core.Option.{Option, some}
 use lib.ListN.{length}
-use Rattle.refusal.specs.Base.{good}
+use Rattle.refusal.specs.Base.{good, limit}
+use Rattle.lines.specs.Lines.{mostLines}
 use Rattle.item.specs.Tree.{Yaml, levels}
 use Rattle.item.specs.Encode.{encode}
 use Rattle.tree.specs.Tree.{tree}
@@ -29,9 +31,9 @@ entries (blank k b ∷ rs) = suc (entries rs)
 -- 1, 3, 20 and 50: the text and its tree `y` are within the limits, for so many lent bytes of work
 pub record Limits {t : List ℕ} {r : Option Rep} (d : Stream t r) (y : Yaml) (work : ℕ) : Type 0 where
   pub short : length t ≤ 65535
-  pub few : entries (d .rows) ≤ 2048
+  pub few : entries (d .rows) ≤ mostLines
   pub shallow : levels y ≤ 32
-  pub small : length (encode y) ≤ min work 1048576
+  pub small : length (encode y) ≤ min work limit
 
 -- a text that is YAML, that document 01 keeps, and that is within the limits is read as YAML reads it
 unfoldable pub Reads : Type 0
@@ -43,5 +45,5 @@ Reads =
 unfoldable pub Means : Type 0
 Means =
     (work room places : ℕ) (t : List ℕ) (r : Option Rep) (y : Yaml) (d : Stream t r) → Kept d → treeOf r ≡ some y → Limits d y work
-    → (m : Meaning) → meaningOf [] y ≡ good m → length (m .steps) ≤ min places 262144 → length (recordOf m) ≤ min room 1048576
+    → (m : Meaning) → meaningOf [] y ≡ good m → length (m .steps) ≤ min places (limit / 4) → length (recordOf m) ≤ min room limit
     → (x : Reading) × (scenario work room places t ≡ good x) × (x .tree ≡ y) × (x .meaning ≡ m)

@@ -1,4 +1,5 @@
--- The lines of a text, each cut into the parts that the productions of chapters 6 and 8 of YAML 1.2.2 name. Assumes nothing.
+-- The lines of a text, each cut into the parts that the productions of chapters 6 and 8 of YAML 1.2.2 name. Uses Base of `refusal`;
+-- Characters of this crate. Assumes nothing.
 use Prim.Native.Nat.{ℕ}
 use mathlib.Core.List.{List, [], _∷_, _++_}
 use mathlib.Core.Bool.{Bool, true, false, _&&_, _||_, not}
@@ -75,7 +76,3 @@ tail (b ∷ bs) = white b && commentLine bs
 pub data Comments : List Row → Type 0 where
   c-end : Comments []
   c-more : {s : List ℕ} {b : Break} {rs : List Row} → T (commentLine s) → Comments rs → Comments (note s b ∷ rs)
-
-unfoldable pub Rows-open : Unit {0}
-unfolding raw breakOf breakText textOf isEof endsLast marker noMarker commentLine tail
-Rows-open = tt

@@ -1,4 +1,5 @@
--- YAML 1.2.2, 7.3: flow scalars on one line. The numbers in brackets are its productions. Assumes nothing.
+-- YAML 1.2.2, 7.3: flow scalars on one line. The numbers in brackets are its productions. Uses Base of `refusal`; Characters of this crate.
+-- Assumes nothing.
 use Prim.Native.Nat.{ℕ}
 use mathlib.Core.List.{List, [], _∷_}
 use mathlib.Core.Bool.{Bool, false, _&&_, _||_, not}
@@ -65,7 +66,3 @@ pub data SingleText : List ℕ → List ℕ → Type 0 where
   s-end : SingleText [] []
   s-char : {b : ℕ} {t v : List ℕ} → T (nbChar b && not (eqb b (ch "'"))) → SingleText t v → SingleText (b ∷ t) (b ∷ v)
   s-twice : {t v : List ℕ} → SingleText t v → SingleText (ch "'" ∷ ch "'" ∷ t) (ch "'" ∷ v)
-
-unfoldable pub Scalars-open : Unit {0}
-unfolding plainSafe safeNext plainFirst plainChar
-Scalars-open = tt

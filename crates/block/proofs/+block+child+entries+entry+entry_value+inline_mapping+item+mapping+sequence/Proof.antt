@@ -1,7 +1,7 @@
 -- The readers of blocks, which call each other: the levels fall. Each return is a law of `Cases`, `Invariants` or `Places`. Assumes nothing.
 use borrow.Author.Needs.{needs}
 use mathlib.Core.Path.{_≡_, refl, sym, ap, _∙_, subst}
-use Prim.Native.Nat.{ℕ, suc, _+_, _*_, _-_, _≤_, _<_}
+use Prim.Native.Nat.{ℕ, suc, _+_, _*_, _-_, _≤_, _<_, _^_}
 use native.Mathlib.Omega.{arith}
 use lib.ListN.{length, drop}
 use Rattle.refusal.specs.Base.{refused}
@@ -747,7 +747,7 @@ inline-mapping-put-header-requires t c κs =
     let w = entry-done _ _ ls (a .i + 1) (a .out .now) _ (a .at + 6) refl (entry′ .result) (entry′ .ensures) (next .given .0 .0) (next .given .0 .1 .0) (next .given .0 .1 .1 .0) (next .given .1) in
     let later = subst (λ (k : ℕ). AgreesBlock (entriesOf cap (within cap (a .levels)) k (next .given .0 .1 .1 .0) (drop (next .given .0 .0) ls)) ls (next .given .0 .0) (entry′ .last .1 .1 .1 .1 .1 .1 .1 .0) (entries′ .last .1 .1 .1 .1 .1 .1 .1 .0) (next .given .0 .1 .1 .0) (entries′ .result)) (column-is text table (a .count) (a .i) (pre .1 .1) (x .result) (x .ensures) (a .from)) (subst (λ (k : ℕ). AgreesBlock (entriesOf k (within k (a .levels)) (x .result .indent + (a .from - x .result .start)) (next .given .0 .1 .1 .0) (drop (next .given .0 .0) ls)) ls (next .given .0 .0) (entry′ .last .1 .1 .1 .1 .1 .1 .1 .0) (entries′ .last .1 .1 .1 .1 .1 .1 .1 .0) (next .given .0 .1 .1 .0) (entries′ .result)) (entry′ .kept .1 .1 .1 .1 .1 .1 .1 .0) (entries′ .ensures)) in
     let d = block-done _ ls (next .given .0 .0) (entry′ .last .1 .1 .1 .1 .1 .1 .1 .0) (entries′ .last .1 .1 .1 .1 .1 .1 .1 .0) (next .given .0 .1 .1 .0) (entries′ .result) later (n .given .0 .0) (n .given .0 .1 .0) (n .given .1) in
-    let n = (entry′ .kept .1 .1 .1 .1 .1 .1 .1 .0) in let m = (entries′ .kept .1 .1 .1 .1 .1 .1 .1 .0) in let z : length (entry′ .last .1 .1 .1 .1 .1 .1 .1 .0) ≡ length (a .out .now) = n in let o : length (a .out .now) ≤ 1048576 = pre .1 .4 in (omega (arith, d .grows, d .fits, w .grows, w .ends, n, m), omega (arith, d .fits), omega arith)
+    let n = (entry′ .kept .1 .1 .1 .1 .1 .1 .1 .0) in let m = (entries′ .kept .1 .1 .1 .1 .1 .1 .1 .0) in let z : length (entry′ .last .1 .1 .1 .1 .1 .1 .1 .0) ≡ length (a .out .now) = n in let o : length (a .out .now) ≤ 2 ^ 20 = pre .1 .4 in (omega (arith, d .grows, d .fits, w .grows, w .ends, n, m), omega (arith, d .fits), omega arith)
 
 inline-mapping-returns-3 : (t : ℕ) → inline-mapping-lts.Need-returns-3 (entry-at-reads.Asked, entry-at-reads.Learnt, entry-below t, entry.Post, key-at-reads.Asked, key-at-reads.Learnt, entries-below t, entries.Post, has-key-reads.Asked, has-key-reads.Learnt, put-header-reads.Asked, put-header-reads.Learnt) (inline-mapping-at t) inline-mapping.Post
 inline-mapping-returns-3 t c =

@@ -16,11 +16,15 @@ returns-2 c = behind-literal (c .before .before .before .before .before .args .t
 
 returns-3 : tie.Need-returns-3
 unfolding bytes
-returns-3 c = behind-stripped (c .before .before .before .before .before .before .before .before .args .t .now) (omega (arith, c .before .before .before .before .before .before .if1 .left)) (sym (c .before .before .before .before .same-bytes .ensures) ∙ c .before .before .before .if2 .left) (sym (c .before .same-bytes2 .ensures) ∙ c .if3 .taken)
+returns-3 c = behind-stripped (c .before .before .before .before .before .before .before .before .args .t .now)
+    (omega (arith, c .before .before .before .before .before .before .if1 .left)) (sym (c .before .before .before .before .same-bytes .ensures)
+    ∙ c .before .before .before .if2 .left) (sym (c .before .same-bytes2 .ensures) ∙ c .if3 .taken)
 
 returns-4 : tie.Need-returns-4
 unfolding bytes
-returns-4 c = behind-value (c .before .before .before .before .before .before .before .before .args .t .now) (omega (arith, c .before .before .before .before .before .before .if1 .left)) (sym (c .before .before .before .before .same-bytes .ensures) ∙ c .before .before .before .if2 .left) (sym (c .before .same-bytes2 .ensures) ∙ c .if3 .left)
+returns-4 c = behind-value (c .before .before .before .before .before .before .before .before .args .t .now)
+    (omega (arith, c .before .before .before .before .before .before .if1 .left)) (sym (c .before .before .before .before .same-bytes .ensures)
+    ∙ c .before .before .before .if2 .left) (sym (c .before .same-bytes2 .ensures) ∙ c .if3 .left)
 
 pub behind-colon-spec : {M : Type 1} → statement M
 behind-colon-spec =

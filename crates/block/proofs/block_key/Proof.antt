@@ -32,7 +32,10 @@ returns-3 c =
     let r = c .before .before .before .before .before .flow in
     let z = c .before .e .given .0 .0 in
     let v = stopped-is AsKey (flow (length (a .out .now)) (a .number) (a .levels) AsKey (a .at) t) (a .out .now) _ (a .at) (r .result) (r .ensures) z (c .before .e .given .1) in
-    rw (← k .ensures .0) (key-refused t (a .number) (a .levels) (a .out .now) (a .at) (omega (arith, c .before .before .before .before .before .before .before .before .before .if1 .left)) (sym (c .before .before .before .before .before .before .before .before .starts-complex .ensures) ∙ c .before .before .before .before .before .before .before .if2 .left) (toldOf z .number) (toldOf z .line) (toldOf z .step) v)
+    rw (← k .ensures .0) (key-refused t (a .number) (a .levels) (a .out .now) (a .at)
+    (omega (arith, c .before .before .before .before .before .before .before .before .before .if1 .left))
+    (sym (c .before .before .before .before .before .before .before .before .starts-complex .ensures)
+    ∙ c .before .before .before .before .before .before .before .if2 .left) (toldOf z .number) (toldOf z .line) (toldOf z .step) v)
 
 returns-4 : tie.Need-returns-4
 returns-4 c =
@@ -42,7 +45,10 @@ returns-4 c =
     let r = c .before .before .before .before .before .before .flow in
     let g = c .before .before .used .given in
     let v = whole-is AsKey (flow (length (a .out .now)) (a .number) (a .levels) AsKey (a .at) t) (a .out .now) _ (a .at) (r .result) (r .ensures) (g .0 .0) (g .0 .1 .0) (g .1) in
-    rw (← k .ensures .0) (key-done t (a .number) (a .levels) (a .out .now) (a .at) (omega (arith, c .before .before .before .before .before .before .before .before .before .before .if1 .left)) (sym (c .before .before .before .before .before .before .before .before .before .starts-complex .ensures) ∙ c .before .before .before .before .before .before .before .before .if2 .left) _ (g .0 .0) (g .0 .1 .0) v (c .if3 .taken))
+    rw (← k .ensures .0) (key-done t (a .number) (a .levels) (a .out .now) (a .at)
+    (omega (arith, c .before .before .before .before .before .before .before .before .before .before .if1 .left))
+    (sym (c .before .before .before .before .before .before .before .before .before .starts-complex .ensures)
+    ∙ c .before .before .before .before .before .before .before .before .if2 .left) _ (g .0 .0) (g .0 .1 .0) v (c .if3 .taken))
 
 returns-5 : tie.Need-returns-5
 returns-5 c =
@@ -52,7 +58,10 @@ returns-5 c =
     let r = c .before .before .before .before .before .before .flow in
     let g = c .before .before .used .given in
     let v = whole-is AsKey (flow (length (a .out .now)) (a .number) (a .levels) AsKey (a .at) t) (a .out .now) _ (a .at) (r .result) (r .ensures) (g .0 .0) (g .0 .1 .0) (g .1) in
-    rw (← k .ensures .0) (key-unnamed t (a .number) (a .levels) (a .out .now) (a .at) (omega (arith, c .before .before .before .before .before .before .before .before .before .before .if1 .left)) (sym (c .before .before .before .before .before .before .before .before .before .starts-complex .ensures) ∙ c .before .before .before .before .before .before .before .before .if2 .left) _ (g .0 .0) (g .0 .1 .0) v (c .if3 .left))
+    rw (← k .ensures .0) (key-unnamed t (a .number) (a .levels) (a .out .now) (a .at)
+    (omega (arith, c .before .before .before .before .before .before .before .before .before .before .if1 .left))
+    (sym (c .before .before .before .before .before .before .before .before .before .starts-complex .ensures)
+    ∙ c .before .before .before .before .before .before .before .before .if2 .left) _ (g .0 .0) (g .0 .1 .0) v (c .if3 .left))
 
 pub block-key-spec : {M : Type 1} → statement M
 block-key-spec =

@@ -24,7 +24,9 @@ returns-3 : tie.Need-returns-3
 returns-3 c =
     let a = c .before .before .before .before .before .before .before .before .args in
     c .key-end .ensures ∙ ap (λ (t : List ℕ). foundOf (keyEnd t)) (c .before .line-text .ensures .0)
-    ∙ ap foundOf (key-on (a .text .now) (a .table .now) (a .count) (a .i) (a .indent) (omega (arith, c .before .before .before .before .before .before .before .before .pre .1, c .before .before .before .before .before .if1 .left)) (omega (arith, c .before .before .before .before .entry-at .ensures .indent′, c .before .before .if2 .left)))
+    ∙ ap foundOf (key-on (a .text .now) (a .table .now) (a .count) (a .i) (a .indent)
+    (omega (arith, c .before .before .before .before .before .before .before .before .pre .1, c .before .before .before .before .before .if1 .left))
+    (omega (arith, c .before .before .before .before .entry-at .ensures .indent′, c .before .before .if2 .left)))
 
 pub key-at-spec : {M : Type 1} → statement M
 key-at-spec =

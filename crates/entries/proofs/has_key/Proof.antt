@@ -1,7 +1,6 @@
 -- A key is there if it has a value. Assumes nothing.
 use borrow.Author.Needs.{needs}
 use mathlib.Core.Path.{subst}
-use Prim.Native.Nat.{_-_}
 use Rattle.entries.specs.Entries.{Seeks}
 use Rattle.entries.proofs.Walking.{key-there, key-missing, lies-between}
 use Rattle.entries.proofs.has_key.Statement.{statement}

@@ -41,7 +41,7 @@ use denote.Triple.Table.{entered, cited}
 use denote.Triple.Walked.{says, needs, Stays, stay-none, stay-none-slice, gave-slice, walkOf, goes-none, goes-none-slice, goes-gave-slice, Walks, ends-at, walked, walk-meets}
 use denote.Exit.{yes}
 use denote.Triple.Clauses.{ensured, lasts}
-use Rattle.scalar.specs.Contract.{Agrees}
+use Rattle.scalar.specs.Contract.{AgreesParsed}
 use Rattle.scalar.specs.Read.{skipSpaces}
 use Rattle.scalar.specs.declared.Parsed.{Parsed}
 use Rattle.scalar.specs.declared.Role.{Role}
@@ -51,7 +51,7 @@ use Rattle.scalar.proofs.Role as R
 use Rattle.scalar.proofs.Role.Laws as R′
 use Rattle.flow.specs.Flow as definition
 use Rattle.flow.specs.Contract.{AgreesWhole}
-use Rattle.flow.specs.Ends.{Within, finishOf}
+use Rattle.flow.specs.Ends.{EndsWithin, finishOf}
 use Rattle.flow.proofs.Ends.{whole-of, within-of}
 use Rattle.flow.specs.declared.Cursor.{Cursor}
 use Rattle.flow.specs.declared.Whole.{Whole}
@@ -98,7 +98,7 @@ module _ {M : Type 1} (𝓤 : URA M) (H : Heap 𝓤) (A : Atoms 𝓤) (mem : Mem
   Finish = tripleOf 𝓤 H A finish.signature (finish.spec 𝓤 H A mem run)
 
 module _ {M : Type 1} (𝓤 : URA M) (H : Heap 𝓤) (A : Atoms 𝓤) (W : Given 𝓤 H A) (mem : Memory → SProp 𝓤) (run : Routine → Fun 𝓤) (κ κ′ : Lft) (q q′ : Share) (l : RefT (List ℕ)) (m : ℕ) (role : Role) (k : ℕ) (b o : ℕ) (γ : GName) (ys : List ℕ) (n : ℕ)
-    (m-fits : m < 2 ^ 64) (has : Is R.the-row role (EL.vals R.the-type R′.the-laws role)) (k-fits : k < 2 ^ 32) (n-fits : n < 2 ^ 64) (ok : (length (now l) ≤ 65535) × (n ≤ length ys) × (length ys ≤ 1048576)) where
+    (m-fits : m < 2 ^ 64) (has : Is R.the-row role (EL.vals R.the-type R′.the-laws role)) (k-fits : k < 2 ^ 32) (n-fits : n < 2 ^ 64) (ok : (length (now l) ≤ 65535) × (n ≤ length ys) × (length ys ≤ 2 ^ 20)) where
   -- the machine value of role
   abbrev ρ : Val
   ρ = EL.val R.the-type R′.the-laws role
@@ -186,16 +186,19 @@ module _ {M : Type 1} (𝓤 : URA M) (H : Heap 𝓤) (A : Atoms 𝓤) (W : Given
   goes-read : (j : ℕ) (w : Val) → j ≤ length (now l) → ent 𝓤 (⋆ 𝓤 H A (((‵ (flft κ q) ⊛ ‵ ftrue) ⊛ ‵ (flft κ′ q′)) ∷ ‵ (B .own (h j) (w ∷ [])) ∷ ‵ Out ∷ [])) (Read 𝓤 H A mem run .pre (to-read j w))
   goes-read j w le =
       qed W (((‵ (flft κ q) ⊛ ‵ ftrue) ⊛ ‵ (flft κ′ q′)) ∷ ‵ (B .own (h j) (w ∷ [])) ∷ ‵ Out ∷ []) ∵ says ! (le, ok .0, ok .1, ok .2) $ split ! $ split ! $ move ! (2 ∷ 1 ∷ []) $ join ! $ move ! (1 ∷ 0 ∷ []) $ join ! $ frame ! $
-      nothing ! $ owned ! usize (Is usize) (uint-makes 𝓤 H A W w64) n _ (refl, n-fits) $ fjoin ! $ move ! (2 ∷ 0 ∷ []) $ fjoin ! $ owned ! u32 (Is u32) (uint-makes 𝓤 H A W w32) k _ (refl, k-fits) $ fjoin ! $ owned ! R.the-row (Is R.the-row) (EL.makes R.the-type R′.the-plain 𝓤 H A) role _ has $ fjoin ! $ owned ! bool (Is bool) (bool-makes 𝓤 H A W) false _ refl $ fjoin ! $ move ! (1 ∷ 0 ∷ []) $ fjoin ! $ done !
+      nothing ! $ owned ! usize (Is usize) (uint-makes 𝓤 H A W w64) n _ (refl, n-fits) $ fjoin ! $ move ! (2 ∷ 0 ∷ []) $ fjoin ! $ owned ! u32 (Is u32)
+      (uint-makes 𝓤 H A W w32) k _ (refl, k-fits) $ fjoin ! $ owned ! R.the-row (Is R.the-row)
+      (EL.makes R.the-type R′.the-plain 𝓤 H A) role _ has $ fjoin ! $ owned ! bool (Is bool) (bool-makes 𝓤 H A W) false _ refl $ fjoin ! $ move !
+      (1 ∷ 0 ∷ []) $ fjoin ! $ done !
 
   abbrev Found : ℕ → Parsed → List ℕ → Type 0
-  Found j p zs = Agrees role (definition.value (length ys) k m false role n (after j (now l))) (now l) ys zs n p
+  Found j p zs = AgreesParsed role (definition.value (length ys) k m false role n (after j (now l))) (now l) ys zs n p
 
   -- `finish`, at the machine value w of what was read
   abbrev to-finish : Parsed → Val → Finish 𝓤 H A mem run .Ghost
   to-finish p w = (((κ, tt), (q, tt), tt, (l, (p, (k, tt))), (v ∷ [], (w ∷ [], (vint w32 k ∷ [], tt)))), tt)
 
-  goes-finish : (p : Parsed) (w : Val) → Within (now l) p → ent 𝓤 (⋆ 𝓤 H A ((‵ (flft κ q) ⊛ ‵ ftrue) ∷ ‵ Own ∷ ‵ (P.the-row .own p (w ∷ [])) ∷ [])) (Finish 𝓤 H A mem run .pre (to-finish p w))
+  goes-finish : (p : Parsed) (w : Val) → EndsWithin (now l) p → ent 𝓤 (⋆ 𝓤 H A ((‵ (flft κ q) ⊛ ‵ ftrue) ∷ ‵ Own ∷ ‵ (P.the-row .own p (w ∷ [])) ∷ [])) (Finish 𝓤 H A mem run .pre (to-finish p w))
   goes-finish p w le =
       qed W ((‵ (flft κ q) ⊛ ‵ ftrue) ∷ ‵ Own ∷ ‵ (P.the-row .own p (w ∷ [])) ∷ []) ∵ says ! le $ frame ! $
       nothing ! $ owned ! u32 (Is u32) (uint-makes 𝓤 H A W w32) k _ (refl, k-fits) $ fjoin ! $ move ! (2 ∷ 0 ∷ []) $ fjoin ! $ move ! (1 ∷ 0 ∷ []) $ fjoin ! $ done !
@@ -208,7 +211,7 @@ module _ {M : Type 1} (𝓤 : URA M) (H : Heap 𝓤) (A : Atoms 𝓤) (W : Given
 
   -- the whole, from what the callees say
   said : (j : ℕ) (p : Parsed) (zs : List ℕ) (t : Whole) → after j (now l) ≡ skipSpaces (now l) → Found j p zs → Ended p t → AgreesWhole role (definition.flow (length ys) k m role n (now l)) ys zs n t
-  said j p zs t sk f e = subst (AgreesWhole role (definition.flow (length ys) k m role n (now l)) ys zs n) (sym e) (whole-of (now l) k m role ys zs n p (subst (λ (bs : List ℕ). Agrees role (definition.value (length ys) k m false role n bs) (now l) ys zs n p) sk f))
+  said j p zs t sk f e = subst (AgreesWhole role (definition.flow (length ys) k m role n (now l)) ys zs n) (sym e) (whole-of (now l) k m role ys zs n p (subst (λ (bs : List ℕ). AgreesParsed role (definition.value (length ys) k m false role n bs) (now l) ys zs n p) sk f))
 
   exits : (t : Whole) (w : Val) (zs : List ℕ) → AgreesWhole role (definition.flow (length ys) k m role n (now l)) ys zs n t → length zs ≡ length ys
       → ent 𝓤 (⋆ 𝓤 H A (‵ (Q.the-row .own t (w ∷ [])) ∷ (‵ (flft κ q) ⊛ ‵ ftrue) ∷ ‵ (flft κ′ q′) ∷ ‵ (finally u8 γ zs) ∷ ‵ Own ∷ [])) (Post w)
@@ -217,7 +220,9 @@ module _ {M : Type 1} (𝓤 : URA M) (H : Heap 𝓤) (A : Atoms 𝓤) (W : Given
       suffices ! _ (ends-at 𝓤 H A flow.ended stayed (flow.clauses 𝓤 H A mem run) W ((κs, (q, (q′, tt)), tt, a, vals), tt) w t (tt, (tt, (tt, (tt, (zs, (tt, tt)))))) (tt, (tt, (tt, (tt, (same, (tt, tt))))))) $ says ! e $
       move ! (1 ∷ []) $ split ! $ move ! (3 ∷ 1 ∷ []) $ join ! $ move ! (1 ∷ 0 ∷ []) $ join ! $ frame ! $
       -- [the result; the last list; what s owns]
-      nothing ! $ owned ! usize (Is usize) (uint-makes 𝓤 H A W w64) n _ (refl, n-fits) $ fjoin ! $ move ! (2 ∷ 0 ∷ []) $ fjoin ! $ owned ! u32 (Is u32) (uint-makes 𝓤 H A W w32) k _ (refl, k-fits) $ fjoin ! $ owned ! R.the-row (Is R.the-row) (EL.makes R.the-type R′.the-plain 𝓤 H A) role _ has $ fjoin ! $
+      nothing ! $ owned ! usize (Is usize) (uint-makes 𝓤 H A W w64) n _ (refl, n-fits) $ fjoin ! $ move ! (2 ∷ 0 ∷ []) $ fjoin ! $ owned ! u32 (Is u32)
+      (uint-makes 𝓤 H A W w32) k _ (refl, k-fits) $ fjoin ! $ owned ! R.the-row (Is R.the-row)
+      (EL.makes R.the-type R′.the-plain 𝓤 H A) role _ has $ fjoin ! $
       owned ! usize (Is usize) (uint-makes 𝓤 H A W w64) m _ (refl, m-fits) $ fjoin ! $ move ! (2 ∷ 0 ∷ []) $ fjoin ! $ done !
 
   module _ (C : Calls 𝓤 H) (Λ : Loops 𝓤 H) (fm : FmC 𝓤 H (W .laws) C) (known-start : Triple 𝓤 (C #flow·start) (Start 𝓤 H A mem run)) (known-past : Triple 𝓤 (C #flow·past) (Past 𝓤 H A mem run))
@@ -226,7 +231,9 @@ module _ {M : Type 1} (𝓤 : URA M) (H : Heap 𝓤) (A : Atoms 𝓤) (W : Given
     walk g room =
         qed W ((‵ (flft κ q) ⊛ ‵ (flft κ′ q′) ⊛ ‵ ftrue) ∷ ‵ (owns (ShrSlice (named 0) κ u8 ∷ usize ∷ R.the-row ∷ u32 ∷ MutSlice (named 1) κ′ u8 ∷ usize ∷ []) a vals) ∷ []) ∵ enter ! C Λ code.function (v ∷ vint w64 m ∷ ρ ∷ vint w32 k ∷ s ∷ vint w64 n ∷ []) _ $
         alloc1 ! (λ l₀. alloc1 ! (λ l₁. alloc1 ! (λ l₂. alloc1 ! (λ l₃. alloc1 ! (λ l₄. alloc1 ! (λ l₅. alloc1 ! (λ l₆. alloc1 ! (λ l₇. alloc1 ! (λ l₈. alloc1 ! (λ l₉. alloc1 ! (λ l₁₀. alloc1 ! (λ l₁₁. alloc0 ! $ params1 ! $
-        pass1 ! (init ! 20 refl (shr-slice-lawful 𝓤 H A W (named 0) κ u8 .typed l (v ∷ []) g .0)) $ pass1 ! (init ! 18 refl (tt, record { fits = m-fits })) $ pass1 ! (init ! 16 refl (EL.lawful R.the-type R′.the-laws 𝓤 H A W tt .typed role _ has .0)) $ pass1 ! (init ! 14 refl (tt, record { fits = k-fits })) $
+        pass1 ! (init ! 20 refl (shr-slice-lawful 𝓤 H A W (named 0) κ u8 .typed l (v ∷ []) g .0)) $ pass1 !
+        (init ! 18 refl (tt, record { fits = m-fits })) $ pass1 ! (init ! 16 refl (EL.lawful R.the-type R′.the-laws 𝓤 H A W tt .typed role _ has .0)) $
+        pass1 ! (init ! 14 refl (tt, record { fits = k-fits })) $
         pass1 ! (init ! 12 refl (tt, (tt, (record { fits = room .0 }, tt)))) $ pass1 ! (init ! 10 refl (tt, record { fits = n-fits })) $ pass0 ! $
         -- [_11; …; _10; …; _9; …; _8; …; _7; …; _6; …; _5; …; _4; …; _3; …; _2; …; _1; …; room for _0; …; the tokens; what the parameters own]
         move ! (25 ∷ []) $ fsplit ! $ move ! (1 ∷ []) $ fsplit ! $ drop ! $ fsplit ! $ drop ! $ fsplit ! $ drop ! $ fsplit ! $ move ! (1 ∷ []) $ drop ! $
@@ -250,7 +257,12 @@ module _ {M : Type 1} (𝓤 : URA M) (H : Heap 𝓤) (A : Atoms 𝓤) (W : Given
         assigns ! (agg ! (and-then ! (load ! (from ! (stop !)) (look ! 8 refl)) (and-then ! (load ! (from ! (fld ! refl (stop !))) (look-in ! 18 (sub ! 1 refl (whole !)))) (no-more !)))) (from ! (stop !)) (init ! 6 refl (tt, (tt, (record { fits = room .0 }, tt)))) $
         -- `value`, from [what the cursor owns; the token; what s owns, twice; out's token; what out owns; _11; …]
         move ! (1 ∷ 4 ∷ 0 ∷ 5 ∷ []) $ join ! $ use3 W (raw (Read 𝓤 H A mem run .pre (to-read (r₁ .at) w₁))) (goes-read (r₁ .at) w₁ (e₁ .2)) $
-        calls-at ! fm (Read 𝓤 H A mem run) known-read (to-read (r₁ .at) w₁) (and-then ! (load ! (from ! (stop !)) (look ! 9 refl)) (and-then ! (false-lit !) (and-then ! (load ! (from ! (stop !)) (look ! 19 refl)) (and-then ! (load ! (from ! (stop !)) (look ! 17 refl)) (and-then ! (load ! (from ! (stop !)) (look ! 3 refl)) (and-then ! (load ! (from ! (stop !)) (look ! 13 refl)) (no-more !))))))) (λ w₂.
+        calls-at ! fm (Read 𝓤 H A mem run) known-read (to-read (r₁ .at) w₁)
+        (and-then ! (load ! (from ! (stop !)) (look ! 9 refl))
+        (and-then ! (false-lit !)
+        (and-then ! (load ! (from ! (stop !)) (look ! 19 refl))
+        (and-then ! (load ! (from ! (stop !)) (look ! 17 refl))
+        (and-then ! (load ! (from ! (stop !)) (look ! 3 refl)) (and-then ! (load ! (from ! (stop !)) (look ! 13 refl)) (no-more !))))))) (λ w₂.
         use1 W (later (some (λ (r : Parsed). ((‵ (flft κ q) ⊛ ‵ (flft κ′ q′) ⊛ ‵ ftrue) ⊛ ‵ (P.the-row .own r (w₂ ∷ []))) ⊛ raw (ensured 𝓤 H A read.ended (read.clauses 𝓤 H A mem run) κs (h (r₁ .at), (false, (role, (k, (x, (n, tt)))))) tt r)))) (id⊢ 𝓤 _) $ await ! tt $ pick ! (λ p.
         -- what `value` ensures, at some last list
         split ! $ move ! (1 ∷ []) $ use1 W (some (λ (zs : Unit {0} × (Unit {0} × (Unit {0} × (Unit {0} × (List ℕ × (Unit {0} × Unit {0})))))). ‵ (lasts read.ended κs (h (r₁ .at), (false, (role, (k, (x, (n, tt)))))) zs) ⊛ raw (fact 𝓤 (Found (r₁ .at) p (zs .1 .1 .1 .1 .0))))) (id⊢ 𝓤 _) $ pick ! (λ zs.
@@ -265,14 +277,20 @@ module _ {M : Type 1} (𝓤 : URA M) (H : Heap 𝓤) (A : Atoms 𝓤) (W : Given
         -- [the result; the token; out's token; the last list; …; what s owns; _11; …; room for _0; …]
         peeks ! Q.the-row (Is Q.the-row) (shows 𝓤 H A Q.the-row) t (w ∷ []) (λ is. land ! (from ! (stop !)) (init ! 28 refl (EL.lawful Q.the-type Q′.the-laws 𝓤 H A W tt .typed t _ is .0)) $
         returns ! (look ! 28 refl) $ forget ! 6 refl $ forget ! 8 refl $ forget ! 10 refl $ forget ! 12 refl $ forget ! 14 refl $ forget ! 16 refl $ forget ! 18 refl $ forget ! 20 refl $ forget ! 22 refl $ forget ! 24 refl $ forget ! 26 refl $ forget ! 28 refl $
-        move ! (28 ∷ 29 ∷ []) $ free1 ! $ move ! (26 ∷ 27 ∷ []) $ free1 ! $ move ! (24 ∷ 25 ∷ []) $ free1 ! $ move ! (22 ∷ 23 ∷ []) $ free1 ! $ move ! (20 ∷ 21 ∷ []) $ free1 ! $ move ! (18 ∷ 19 ∷ []) $ free1 ! $ move ! (16 ∷ 17 ∷ []) $ free1 ! $ move ! (14 ∷ 15 ∷ []) $ free1 ! $ move ! (12 ∷ 13 ∷ []) $ free1 ! $ move ! (10 ∷ 11 ∷ []) $ free1 ! $ move ! (8 ∷ 9 ∷ []) $ free1 ! $ move ! (6 ∷ 7 ∷ []) $ free1 ! $ free0 ! $
+        move ! (28 ∷ 29 ∷ []) $ free1 ! $ move ! (26 ∷ 27 ∷ []) $ free1 ! $ move ! (24 ∷ 25 ∷ []) $ free1 ! $ move ! (22 ∷ 23 ∷ []) $ free1 ! $ move !
+        (20 ∷ 21 ∷ []) $ free1 ! $ move ! (18 ∷ 19 ∷ []) $ free1 ! $ move ! (16 ∷ 17 ∷ []) $ free1 ! $ move ! (14 ∷ 15 ∷ []) $ free1 ! $ move !
+        (12 ∷ 13 ∷ []) $ free1 ! $ move ! (10 ∷ 11 ∷ []) $ free1 ! $ move ! (8 ∷ 9 ∷ []) $ free1 ! $ move ! (6 ∷ 7 ∷ []) $ free1 ! $ free0 ! $
         keep ! (0 ∷ 1 ∷ 2 ∷ 3 ∷ 5 ∷ []) $ by ! (exits t w (zs .1 .1 .1 .1 .0) (said (r₁ .at) p (zs .1 .1 .1 .1 .0) t (e₁ .1) e₂ e₃) same)))))))))))))))))))))))))))))))
 
 module _ {M : Type 1} (𝓤 : URA M) (H : Heap 𝓤) (A : Atoms 𝓤) (W : Given 𝓤 H A) (mem : Memory → SProp 𝓤) (run : Routine → Fun 𝓤) where
   flow-walks : (C : Calls 𝓤 H) (Λ : Loops 𝓤 H) → FmC 𝓤 H (W .laws) C → Triple 𝓤 (C #flow·start) (Start 𝓤 H A mem run) → Triple 𝓤 (C #flow·past) (Past 𝓤 H A mem run) → Triple 𝓤 (C #flow·read) (Read 𝓤 H A mem run) → Triple 𝓤 (C #flow·finish) (Finish 𝓤 H A mem run)
       → Walks 𝓤 H A flow.ended stayed (WpFn 𝓤 H C Λ code.function) (flow.clauses 𝓤 H A mem run)
   flow-walks C Λ fm known-start known-past known-read known-finish = walked 𝓤 H A flow.ended stayed (flow.clauses 𝓤 H A mem run) (WpFn 𝓤 H C Λ code.function)
-      (λ κs. (slice-vals, (uint-vals w64, (EL.vals R.the-type R′.the-laws, (uint-vals w32, (slice-vals, (uint-vals w64, tt))))))) (λ κs. (shr-slice-tells (named 0) (κs .0) u8, (uint-tells w64, (EL.tells R.the-type R′.the-laws, (uint-tells w32, (mut-slice-tells (named 1) (κs .1 .0) u8, (uint-tells w64, tt)))))))
+      (λ κs. (slice-vals, (uint-vals w64, (EL.vals R.the-type R′.the-laws, (uint-vals w32, (slice-vals, (uint-vals w64, tt)))))))
+      (λ κs. (
+        shr-slice-tells (named 0) (κs .0) u8,
+        (uint-tells w64, (EL.tells R.the-type R′.the-laws, (uint-tells w32, (mut-slice-tells (named 1) (κs .1 .0) u8, (uint-tells w64, tt))))),
+      ))
       (λ κs qs bounds a g are. needs 𝓤 _ _ (λ ok.
       walk 𝓤 H A W mem run (κs .0) (κs .1 .0) (qs .0) (qs .1 .0) (a .0) (a .1 .0) (a .1 .1 .0) (a .1 .1 .1 .0) (a .1 .1 .1 .1 .0 .ptr .0) (a .1 .1 .1 .1 .0 .ptr .1) (a .1 .1 .1 .1 .0 .name) (a .1 .1 .1 .1 .0 .now) (a .1 .1 .1 .1 .1 .0)
       (are .1 .0 .1) (are .1 .1 .0) (are .1 .1 .1 .0 .1) (are .1 .1 .1 .1 .1 .0 .1) ok C Λ fm known-start known-past known-read known-finish (are .0) (are .1 .1 .1 .1 .0 .0 .1)))
@@ -281,8 +299,19 @@ flow-meets : {M : Type 1} (𝓤 : URA M) (H : Heap 𝓤) (A : Atoms 𝓤) (W : G
     → Triple 𝓤 (𝓣 .C #flow·start) (Start 𝓤 H A mem run) → Triple 𝓤 (𝓣 .C #flow·past) (Past 𝓤 H A mem run) → Triple 𝓤 (𝓣 .C #flow·read) (Read 𝓤 H A mem run) → Triple 𝓤 (𝓣 .C #flow·finish) (Finish 𝓤 H A mem run)
     → Meets 𝓤 H A flow.signature (WpFn 𝓤 H (𝓣 .C) (𝓣 .Λ) code.function) (flow.spec 𝓤 H A mem run)
 flow-meets 𝓤 H A W mem run 𝓣 known-start known-past known-read known-finish =
-    walk-meets 𝓤 H A flow.ended stayed W
-    (goes-none-slice 𝓤 H A W 2 (0 ∷ []) tt (plain (λ _. u8)) yes, (goes-none 𝓤 H A W 2 (λ _. usize) yes (λ κs x f. refl), (goes-none 𝓤 H A W 2 (λ _. R.the-row) yes (λ κs x f. refl), (goes-none 𝓤 H A W 2 (λ _. u32) yes (λ κs x f. refl), (goes-gave-slice 𝓤 H A W 2 1 tt (plain (λ _. u8)), (goes-none 𝓤 H A W 2 (λ _. usize) yes (λ κs x f. refl), tt))))))
+    walk-meets 𝓤 H A flow.ended stayed W (
+      goes-none-slice 𝓤 H A W 2 (0 ∷ []) tt (plain (λ _. u8)) yes,
+      (
+        goes-none 𝓤 H A W 2 (λ _. usize) yes (λ κs x f. refl),
+        (
+          goes-none 𝓤 H A W 2 (λ _. R.the-row) yes (λ κs x f. refl),
+          (
+            goes-none 𝓤 H A W 2 (λ _. u32) yes (λ κs x f. refl),
+            (goes-gave-slice 𝓤 H A W 2 1 tt (plain (λ _. u8)), (goes-none 𝓤 H A W 2 (λ _. usize) yes (λ κs x f. refl), tt)),
+          ),
+        ),
+      ),
+    )
     (flow.clauses 𝓤 H A mem run) (WpFn 𝓤 H (𝓣 .C) (𝓣 .Λ) code.function) (WpFn-mono 𝓤 H (W .laws) 𝓣 code.function) (flow-walks 𝓤 H A W mem run (𝓣 .C) (𝓣 .Λ) (fmOf 𝓤 H (W .laws) 𝓣) known-start known-past known-read known-finish)
 
 pub flow-spec : {M : Type 1} → stated.statement M

@@ -6,7 +6,7 @@ use Prim.Native.Nat.{_-_}
 use native.Mathlib.Omega.{arith}
 use Rattle.lines.specs.Lines.{tabbed}
 use Rattle.lines.specs.Places.{IsRaw, rawText}
-use Rattle.lines.proofs.StepLaws.{raw-tab, tab-stops-body, full-stops-body, body-takes}
+use Rattle.lines.proofs.ScanLaws.{raw-tab, tab-stops-body, full-stops-body, body-takes}
 use Rattle.lines.proofs.body_line.Statement.{statement}
 use Rattle.lines.proofs.body_line.Tie as tie
 
@@ -34,11 +34,20 @@ returns-3 : tie.Need-returns-3
 returns-3 c =
     let a = c .before .before .before .before .before .before .before .before .before .before .before .before .before .before .before .args in
     let ok : IsRaw (a .text .now) (a .raw) = c .before .before .before .before .before .before .before .before .before .before .before .before .before .before .before .pre .1 in
-    let t : tabbed (rawText (a .text .now) (a .raw)) ≡ false = sym (raw-tab (a .text .now) (a .raw) ok) ∙ sym (c .before .before .before .before .before .before .before .before .before .before .before .before .tab-leads .ensures) ∙ c .before .before .before .before .before .before .before .before .before .before .before .if1 .left in
+    let t : tabbed (rawText (a .text .now) (a .raw)) ≡ false = sym (raw-tab (a .text .now) (a .raw) ok)
+    ∙ sym (c .before .before .before .before .before .before .before .before .before .before .before .before .tab-leads .ensures)
+    ∙ c .before .before .before .before .before .before .before .before .before .before .before .if1 .left in
     let p = c .before .before .before .before .before .before .before .put-blanks in (
       search needs,
       λ raws. rw (c .before .before .put-entry .ensures)
-          (body-takes (a .text .now) (a .raw) ok (a .under) (a .waiting) t raws (a .table .now) (p .last .0) (a .count) (c .before .before .before .trim-end .result) (c .before .before .before .trim-end .ensures .0) (c .before .before .before .trim-end .ensures .1 .1) (omega (arith, c .before .before .before .before .before .before .before .before .before .before .before .before .before .before .before .pre .0, p .kept .0)) (omega arith) (p .ensures (a .text .now))),
+          (body-takes (a .text .now) (a .raw) ok (a .under) (a .waiting) t raws (a .table .now) (p .last .0) (a .count)
+          (c .before .before .before .trim-end .result) (c .before .before .before .trim-end .ensures .0)
+          (c .before .before .before .trim-end .ensures .1 .1)
+          (omega (
+            arith,
+            c .before .before .before .before .before .before .before .before .before .before .before .before .before .before .before .pre .0,
+            p .kept .0,
+          )) (omega arith) (p .ensures (a .text .now))),
     )
 
 pub body-line-spec : {M : Type 1} → statement M

@@ -9,7 +9,7 @@ use Rattle.refusal.specs.Told.{toldOf}
 use Rattle.lines.specs.Lines.{scan}
 use Rattle.lines.specs.Places.{rawText}
 use Rattle.lines.specs.Table.{Takes}
-use Rattle.lines.proofs.StepLaws.{lines-start, lines-end, is-raw, stops, goes-on, Scanned}
+use Rattle.lines.proofs.ScanLaws.{lines-start, lines-end, is-raw, stops, goes-on, Scanned}
 use Rattle.lines.proofs.fill.Statement.{statement}
 use Rattle.lines.proofs.fill.Tie as tie
 
@@ -50,7 +50,9 @@ returns c =
     let r = c .before .before .before .before .before .before .before .raw-at in
     let at = r .ensures in
     let n = c .before .before .before .before .before .before .before .before .newline-at in
-    let k = subst (Takes (a .text .now) (l .table) (c .before .before .before .before .before .read-line .last .1 .1 .1 .1 .0) (l .count) (r .result .number) (λ raws. scan (l .literal) (l .waiting) (r .result .number) (rawText (a .text .now) (r .result) ∷ raws))) (c .before .e .given .1) (c .before .before .before .before .before .read-line .ensures) in
+    let k = subst (Takes (a .text .now) (l .table) (c .before .before .before .before .before .read-line .last .1 .1 .1 .1 .0) (l .count) (r .result .number)
+    (λ raws. scan (l .literal) (l .waiting) (r .result .number) (rawText (a .text .now) (r .result) ∷ raws))) (c .before .e .given .1)
+    (c .before .before .before .before .before .read-line .ensures) in
     let e = toldOf (c .before .e .given .0 .0) in
     stops (a .text .now) (l .at) (n .result) (l .number) (r .result) at (l .table) (l .count) (l .literal) (l .waiting) (l .inv) (e .number) (e .line) (e .step) k
 

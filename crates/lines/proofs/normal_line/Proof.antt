@@ -6,7 +6,7 @@ use Prim.Native.Nat.{_-_}
 use native.Mathlib.Omega.{arith}
 use Rattle.lines.specs.Lines.{tabbed}
 use Rattle.lines.specs.Places.{IsRaw, rawText}
-use Rattle.lines.proofs.StepLaws.{raw-significant, raw-tab, tab-stops, none-takes, marker-stops, full-stops, entry-takes}
+use Rattle.lines.proofs.ScanLaws.{raw-significant, raw-tab, tab-stops, none-takes, marker-stops, full-stops, entry-takes}
 use Rattle.lines.proofs.normal_line.Statement.{statement}
 use Rattle.lines.proofs.normal_line.Tie as tie
 
@@ -69,10 +69,22 @@ returns-5 c =
     let m = c .before .before .before .before .before .before .before .before .before .before .before .before .comment-at in
     let e = c .before .before .before .before .before .before .before .before .before .before .before .trim-end in
     let sig = raw-significant (a .text .now) (a .raw) ok (m .result) (e .result) (m .ensures .0) (m .ensures .1) (e .ensures .0) in
-    let t : tabbed (rawText (a .text .now) (a .raw)) ≡ false = sym (raw-tab (a .text .now) (a .raw) ok) ∙ sym (c .before .before .before .before .before .before .before .before .before .before .before .before .before .before .tab-leads .ensures) ∙ c .before .before .before .before .before .before .before .before .before .before .before .before .before .if1 .left in (
+    let t : tabbed (rawText (a .text .now) (a .raw)) ≡ false = sym (raw-tab (a .text .now) (a .raw) ok)
+    ∙ sym (c .before .before .before .before .before .before .before .before .before .before .before .before .before .before .tab-leads .ensures)
+    ∙ c .before .before .before .before .before .before .before .before .before .before .before .before .before .if1 .left in (
       search needs,
       λ raws. rw (c .before .before .before .put-entry .ensures, c .literal-after .ensures)
-          (entry-takes (a .text .now) (a .raw) ok (e .result) sig t (omega (arith, c .before .before .before .before .before .before .before .before .before .before .if2 .left)) (omega arith) (sym (c .before .before .before .before .before .before .before .before .is-marker .ensures) ∙ c .before .before .before .before .before .before .before .if3 .left) (a .table .now) (a .count) (omega (arith, c .before .before .before .before .before .before .before .before .before .before .before .before .before .before .before .before .before .before .pre .0, c .before .before .before .before .before .before .if4 .left)) (omega (arith, c .before .before .before .before .before .before .if4 .left)) raws),
+          (entry-takes (a .text .now) (a .raw) ok (e .result) sig t
+          (omega (arith, c .before .before .before .before .before .before .before .before .before .before .if2 .left)) (omega arith)
+          (sym (c .before .before .before .before .before .before .before .before .is-marker .ensures)
+          ∙ c .before .before .before .before .before .before .before .if3 .left) (a .table .now) (a .count)
+          (omega (
+            arith,
+            c .before .before .before .before .before .before .before .before .before .before .before .before .before .before .before .before
+                .before .before .pre .0,
+            c .before .before .before .before .before .before .if4 .left,
+          ))
+          (omega (arith, c .before .before .before .before .before .before .if4 .left)) raws),
     )
 
 pub normal-line-spec : {M : Type 1} → statement M

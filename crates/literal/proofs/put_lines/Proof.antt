@@ -11,7 +11,9 @@ use Rattle.literal.proofs.put_lines.Statement.{statement}
 use Rattle.literal.proofs.put_lines.Tie as tie
 
 abbrev Inv-loop : tie.InvT-loop
-Inv-loop text table count first indent out₀ at to i₀ p₀ out i p = (i ≤ count) × (length out ≡ length out₀) × (p + length (bodyFrom text table count indent i) ≡ at + length (bodyFrom text table count indent first)) × (left text table count indent out p to i ≡ left text table count indent out₀ at to first)
+Inv-loop text table count first indent out₀ at to i₀ p₀ out i p = (i ≤ count) × (length out ≡ length out₀)
+    × (p + length (bodyFrom text table count indent i) ≡ at + length (bodyFrom text table count indent first))
+    × (left text table count indent out p to i ≡ left text table count indent out₀ at to first)
 
 abbrev μ-loop : tie.MeasureT-loop
 μ-loop text table count first indent out₀ at to i₀ p₀ out i p = count - i

@@ -1,48 +1,13 @@
--- One word after the other. Assumes nothing.
+-- The words are the literals. Assumes nothing.
 use borrow.Author.Needs.{needs}
 use Rattle.meaning.proofs.is_built_in.Statement.{statement}
 use Rattle.meaning.proofs.is_built_in.Tie as tie
-use mathlib.Core.Path.{sym, _∙_}
-use mathlib.Core.Bool.{or-false}
-use Rattle.refusal.specs.Base.{bytes, oneOf}
+use Rattle.refusal.specs.Base.{bytes}
 use Rattle.meaning.specs.Meaning.{builtInSteps}
 
 returns : tie.Need-returns
-unfolding oneOf bytes builtInSteps
-returns c = rw (sym (c .before .same-bytes .ensures) ∙ (c .if1 .taken))
-
-returns-2 : tie.Need-returns-2
-unfolding oneOf bytes builtInSteps
-returns-2 c = rw (sym (c .before .before .before .before .same-bytes .ensures) ∙ (c .before .before .before .if1 .left), sym (c .before .same-bytes2 .ensures) ∙ (c .if2 .taken))
-
-returns-3 : tie.Need-returns-3
-unfolding oneOf bytes builtInSteps
-returns-3 c = rw (sym (c .before .before .before .before .before .before .before .same-bytes .ensures) ∙ (c .before .before .before .before .before .before .if1 .left), sym (c .before .before .before .before .same-bytes2 .ensures) ∙ (c .before .before .before .if2 .left), sym (c .before .same-bytes3 .ensures) ∙ (c .if3 .taken))
-
-returns-4 : tie.Need-returns-4
-unfolding oneOf bytes builtInSteps
-returns-4 c = rw (sym (c .before .before .before .before .before .before .before .before .before .before .same-bytes .ensures) ∙ (c .before .before .before .before .before .before .before .before .before .if1 .left), sym (c .before .before .before .before .before .before .before .same-bytes2 .ensures) ∙ (c .before .before .before .before .before .before .if2 .left), sym (c .before .before .before .before .same-bytes3 .ensures) ∙ (c .before .before .before .if3 .left), sym (c .before .same-bytes4 .ensures) ∙ (c .if4 .taken))
-
-returns-5 : tie.Need-returns-5
-unfolding oneOf bytes builtInSteps
-returns-5 c = rw (sym (c .before .before .before .before .before .before .before .before .before .before .before .before .same-bytes .ensures) ∙ (c .before .before .before .before .before .before .before .before .before .before .before .if1 .left), sym (c .before .before .before .before .before .before .before .before .before .same-bytes2 .ensures) ∙ (c .before .before .before .before .before .before .before .before .if2 .left), sym (c .before .before .before .before .before .before .same-bytes3 .ensures) ∙ (c .before .before .before .before .before .if3 .left), sym (c .before .before .before .same-bytes4 .ensures) ∙ (c .before .before .if4 .left)) ((c .same-bytes5 .ensures) ∙ sym (or-false _))
+unfolding bytes builtInSteps
+returns c = c .one-of-five .ensures
 
 pub is-built-in-spec : {M : Type 1} → statement M
-is-built-in-spec =
-    tie.close
-    (tie.spec
-    (λ c. search needs)
-    (λ c κs. search needs)
-    returns
-    (λ c. search needs)
-    (λ c κs. search needs)
-    returns-2
-    (λ c. search needs)
-    (λ c κs. search needs)
-    returns-3
-    (λ c. search needs)
-    (λ c κs. search needs)
-    returns-4
-    (λ c. search needs)
-    (λ c κs. search needs)
-    returns-5)
+is-built-in-spec = tie.close (tie.spec (λ c. search needs) (λ c. search needs) (λ c. search needs) (λ c. search needs) (λ c. search needs) (λ c κs. search needs) returns)

@@ -46,4 +46,5 @@ returns-3 c =
     )
 
 pub put-value-spec : {M : Type 1} → statement M
-put-value-spec = tie.close (tie.spec (λ c. search needs) (λ c. search needs) (λ c κs. search needs) (λ c. search needs) returns (λ c κs. search needs) (λ c. search needs) (λ c κs. search needs) (λ c. search needs) returns-2 sub-put part-put-start part-put-end put-requires (λ c. search needs) returns-3)
+put-value-spec = tie.close (tie.spec (λ c. search needs) (λ c. search needs) (λ c κs. search needs) (λ c. search needs) returns (λ c κs. search needs)
+    (λ c. search needs) (λ c κs. search needs) (λ c. search needs) returns-2 sub-put part-put-start part-put-end put-requires (λ c. search needs) returns-3)

@@ -88,4 +88,6 @@ returns-7 c = (
 )
 
 pub render-spec : {M : Type 1} → statement M
-render-spec = tie.close (tie.spec (λ c κs. search needs) (λ c. search needs) returns returns-2 put-bool-requires (λ c. search needs) returns-3 sub-if4 returns-4 integer-at-requires (λ c κs. search needs) (λ c. search needs) returns-5 sub-put part-put-start part-put-end put-requires (λ c. search needs) returns-6 returns-7)
+render-spec = tie.close (tie.spec (λ c κs. search needs) (λ c. search needs) returns returns-2 put-bool-requires
+    (λ c. search needs) returns-3 sub-if4 returns-4 integer-at-requires (λ c κs. search needs)
+    (λ c. search needs) returns-5 sub-put part-put-start part-put-end put-requires (λ c. search needs) returns-6 returns-7)

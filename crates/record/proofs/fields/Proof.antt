@@ -8,7 +8,7 @@ use mathlib.Core.Bool.{true}
 use mathlib.Core.Option.{some}
 use borrow.Author.Tests.{not-true, not-false}
 use Rattle.value.proofs.Invariants.{part-small}
-use Rattle.value.specs.Walks.{Read, Walks}
+use Rattle.value.specs.Walks.{ReadAt, Walks}
 use Rattle.record.specs.Read.{fieldOf, asText}
 use Rattle.record.specs.Contract.{ItemAt, ItemEnds, areTexts}
 use Rattle.record.proofs.Views.{text-walks, tree-walks}
@@ -48,7 +48,7 @@ s₁ c = c .before .before .before .before .before .args .s .now
 abbrev a : Name → ℕ
 a c = c .before .name .given .0 .0
 
-name : (c : Name) → Read (fieldOf asText 0) (s₁ c) 0 (a c)
+name : (c : Name) → ReadAt (fieldOf asText 0) (s₁ c) 0 (a c)
 name c = let w = c .before .before .before .value-of in subst (Walks (fieldOf asText 0) (s₁ c) 0) (c .before .name .given .1) (text-walks 0 (s₁ c) 0 (w .result) (w .ensures))
 
 abbrev s₂ : Description → List ℕ
@@ -57,7 +57,7 @@ s₂ c = s₁ (c .before .before .before .before)
 abbrev b : Description → ℕ
 b c = c .before .description .given .0 .0
 
-description : (c : Description) → Read (fieldOf asText 0) (s₂ c) (a (c .before .before .before .before)) (b c)
+description : (c : Description) → ReadAt (fieldOf asText 0) (s₂ c) (a (c .before .before .before .before)) (b c)
 description c =
     let at = a (c .before .before .before .before) in
     let w = c .before .before .before .value-of2 in
@@ -90,7 +90,7 @@ s₅ c = s₄ (c .before .before .before .before)
 abbrev d : Image → ℕ
 d c = c .before .image .given .0 .0
 
-image : (c : Image) → Read (fieldOf asText 0) (s₅ c) (c₄ (c .before .before .before .before)) (d c)
+image : (c : Image) → ReadAt (fieldOf asText 0) (s₅ c) (c₄ (c .before .before .before .before)) (d c)
 image c =
     let at = c₄ (c .before .before .before .before) in
     let w = c .before .before .before .value-of3 in

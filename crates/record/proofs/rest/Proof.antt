@@ -7,7 +7,7 @@ use mathlib.Core.List.{List}
 use mathlib.Core.Bool.{true}
 use borrow.Author.Tests.{not-true, not-false}
 use Rattle.value.proofs.Invariants.{part-small}
-use Rattle.value.specs.Walks.{Read, Walks}
+use Rattle.value.specs.Walks.{ReadAt, Walks}
 use Rattle.record.specs.Read.{fieldOf, asItems}
 use Rattle.record.specs.Contract.{ItemAt, ItemEnds, areDefaults}
 use Rattle.record.proofs.Views.{items-walks}
@@ -64,7 +64,7 @@ s₃ c = s₂ (c .before .before .before .before)
 abbrev b : FailOn → ℕ
 b c = c .before .fail-on .given .0 .0
 
-fail-on : (c : FailOn) → Read (fieldOf asItems 31) (s₃ c) (a₂ (c .before .before .before .before)) (b c)
+fail-on : (c : FailOn) → ReadAt (fieldOf asItems 31) (s₃ c) (a₂ (c .before .before .before .before)) (b c)
 fail-on c =
     let from = a₂ (c .before .before .before .before) in
     let w = c .before .before .before .value-of in

@@ -30,14 +30,19 @@ returns-3 c = step-refused _ _ _ _ (ap answerOf (sym (c .before .e .given .1)) �
 
 returns-4 : tie.Need-returns-4
 returns-4 c =
-    let o = opened-as _ (λ i. omega (arith, c .before .before .before .before .before .before .before .before .before .before .before .before .shared-slice-known .given i)) (c .before .before .before .before .before .before .before .before .before .steps .given .1) (c .before .before .before .before .before .before .before .before .before .before .before .check-record .ensures) in
+    let o = opened-as _ (λ i. omega
+    (arith, c .before .before .before .before .before .before .before .before .before .before .before .before .shared-slice-known .given i))
+    (c .before .before .before .before .before .before .before .before .before .steps .given .1)
+    (c .before .before .before .before .before .before .before .before .before .before .before .check-record .ensures) in
     let number = c .before .before .before .before .before .before .before .before .before .before .before .before .before .args .number in
     c .found .ensures ∙ ap spanOf (c .before .nth-item2 .ensures)
     ∙ step-in o _ _ number (number - 1) (sym (c .before .before .before .start .given .1) ∙ c .before .before .before .before .before .nth-item .ensures) (omega arith) (omega arith)
 
 returns-5 : tie.Need-returns-5
 returns-5 c =
-    let o = opened-as _ (λ i. omega (arith, c .before .before .before .before .before .before .before .before .before .shared-slice-known .given i)) (c .before .before .before .before .before .before .steps .given .1) (c .before .before .before .before .before .before .before .before .check-record .ensures) in
+    let o = opened-as _ (λ i. omega (arith, c .before .before .before .before .before .before .before .before .before .shared-slice-known .given i))
+    (c .before .before .before .before .before .before .steps .given .1)
+    (c .before .before .before .before .before .before .before .before .check-record .ensures) in
     never-nothing (last-found o (c .before .before .nth-item .result) (c .before .before .nth-item .ensures) (ap spanOf (c .enum-told .given .1)))
 
 pub step-spec : {M : Type 1} → statement M

@@ -1,7 +1,7 @@
 -- Seven fields in turn: at each place, those before it were read, and all hangs on the rest. Assumes nothing.
 use borrow.Author.Needs.{needs}
 use mathlib.Core.Path.{_≡_, sym, ap, _∙_, subst}
-use Prim.Native.Nat.{ℕ, _≤_}
+use Prim.Native.Nat.{ℕ, _≤_, _^_}
 use native.Mathlib.Omega.{arith}
 use mathlib.Core.List.{List}
 use mathlib.Core.Bool.{false}
@@ -9,7 +9,7 @@ use mathlib.Core.Option.{none, some}
 use lib.ListN.{length, drop}
 use Rattle.refusal.specs.Base.{oneOf}
 use Rattle.value.proofs.Contents.{bytes-of}
-use Rattle.value.specs.Walks.{Read, Walks}
+use Rattle.value.specs.Walks.{ReadAt, Walks}
 use Rattle.value.specs.declared.End.{End}
 use Rattle.meaning.specs.Meaning.{stepFields}
 use Rattle.record.specs.Read.{fieldOf, asText, asOptional, asFlag, asCommand, asExpect}
@@ -56,7 +56,7 @@ s₁ c = c .before .before .before .before .before .args .s .now
 abbrev a : Name → ℕ
 a c = c .before .name .given .0 .0
 
-name : (c : Name) → Read (fieldOf asText 0) (s₁ c) 0 (a c)
+name : (c : Name) → ReadAt (fieldOf asText 0) (s₁ c) 0 (a c)
 name c = let w = c .before .before .before .value-of in subst (Walks (fieldOf asText 0) (s₁ c) 0) (c .before .name .given .1) (text-walks 0 (s₁ c) 0 (w .result) (w .ensures))
 
 abbrev s₂ : Id → List ℕ
@@ -65,7 +65,7 @@ s₂ c = s₁ (c .before .before .before .before)
 abbrev b : Id → ℕ
 b c = c .before .id .given .0 .0
 
-id : (c : Id) → Read (fieldOf asText 0) (s₂ c) (a (c .before .before .before .before)) (b c)
+id : (c : Id) → ReadAt (fieldOf asText 0) (s₂ c) (a (c .before .before .before .before)) (b c)
 id c =
     let at = a (c .before .before .before .before) in
     let w = c .before .before .before .value-of2 in
@@ -80,7 +80,7 @@ from c = b (c .before .before .before .before)
 abbrev to : Key → ℕ
 to c = c .before .key .given .0 .0
 
-key : (c : Key) → Read (fieldOf asText 0) (s₃ c) (from c) (to c)
+key : (c : Key) → ReadAt (fieldOf asText 0) (s₃ c) (from c) (to c)
 key c =
     let w = c .before .before .before .value-of3 in
     subst (Walks (fieldOf asText 0) (s₃ c) (from c)) (c .before .key .given .1) (text-walks 0 (s₃ c) (from c) (w .result) (w .ensures))
@@ -111,7 +111,7 @@ s₅ c = s₄ (c .before .before .before .before)
 abbrev d : Value → ℕ
 d c = c .before .value .given .0 .0
 
-value : (c : Value) → Read (fieldOf some 29) (s₅ c) (c₄ (c .before .before .before .before)) (d c)
+value : (c : Value) → ReadAt (fieldOf some 29) (s₅ c) (c₄ (c .before .before .before .before)) (d c)
 value c =
     let at = c₄ (c .before .before .before .before) in
     let w = c .before .before .before .value-at in
@@ -123,7 +123,7 @@ s₆ c = s₅ (c .before .before .before .before)
 abbrev e : Timeout → ℕ
 e c = c .before .timeout .given .0 .0
 
-timeout : (c : Timeout) → Read (fieldOf asOptional 0) (s₆ c) (d (c .before .before .before .before)) (e c)
+timeout : (c : Timeout) → ReadAt (fieldOf asOptional 0) (s₆ c) (d (c .before .before .before .before)) (e c)
 timeout c =
     let at = d (c .before .before .before .before) in
     let w = c .before .before .before .value-of4 in
@@ -135,7 +135,7 @@ s₇ c = s₆ (c .before .before .before .before)
 abbrev f : Continues → ℕ
 f c = c .before .continues .given .0 .0
 
-continues : (c : Continues) → Read (fieldOf asFlag 0) (s₇ c) (e (c .before .before .before .before)) (f c)
+continues : (c : Continues) → ReadAt (fieldOf asFlag 0) (s₇ c) (e (c .before .before .before .before)) (f c)
 continues c =
     let at = e (c .before .before .before .before) in
     let w = c .before .before .before .value-of5 in
@@ -184,7 +184,7 @@ expect-walk : (c : Continues) (n : ℕ) (w : End) → n ≡ expectKind (inPart (
 expect-walk c n w h walks =
     expect-walks 29 (s₇ c) (f c) w (word (beside c)) (subst (λ (n : ℕ). Walks (fieldOf (ofKind 0 n) 29) (s₇ c) (f c) w) (h ∙ ap expectKind (key-part (keyed c))) walks)
 
-short : (c : Continues) → length (s₇ c) ≤ 1048576
+short : (c : Continues) → length (s₇ c) ≤ 2 ^ 20
 short c = up (beside c) .before .before .before .before .before .before .before .before .before .pre
 
 -- ---- the needs

@@ -22,13 +22,29 @@ loop-holds : tie.Need-loop-holds Inv-loop μ-loop
 loop-holds c = (omega arith, (0, left-start))
 
 returns : tie.Need-returns Inv-loop μ-loop
-returns c = texts-fail ((c .before .before .before .before .loop .inv) .1 .1) (c .before .before .before .loop-test .taken) (subst (Walks (fieldOf asText 0) ((c .before .before .before .before .before .before .args) .s .now) (c .before .before .before .before .loop .at)) (c .enum-told .given .1) (text-walks 0 ((c .before .before .before .before .before .before .args) .s .now) (c .before .before .before .before .loop .at) (c .before .before .value-of .result) (c .before .before .value-of .ensures)))
+returns c = texts-fail ((c .before .before .before .before .loop .inv) .1 .1) (c .before .before .before .loop-test .taken)
+    (subst (Walks (fieldOf asText 0) ((c .before .before .before .before .before .before .args) .s .now) (c .before .before .before .before .loop .at))
+    (c .enum-told .given .1) (text-walks 0 ((c .before .before .before .before .before .before .args) .s .now) (c .before .before .before .before .loop .at)
+    (c .before .before .value-of .result) (c .before .before .value-of .ensures)))
 
 loop-less : tie.Need-loop-less Inv-loop μ-loop
-loop-less c = let w = subst (Walks (fieldOf asText 0) ((c .before .before .before .before .before .before .before .args) .s .now) (c .before .before .before .before .before .loop .at)) (c .before .end .given .1) (text-walks 0 ((c .before .before .before .before .before .before .before .args) .s .now) (c .before .before .before .before .before .loop .at) (c .before .before .before .value-of .result) (c .before .before .before .value-of .ensures)) in omega (arith, w .forward, w .fits)
+loop-less c = let w = subst (Walks (fieldOf asText 0) ((c .before .before .before .before .before .before .before .args) .s .now)
+    (c .before .before .before .before .before .loop .at)) (c .before .end .given .1)
+    (text-walks 0 ((c .before .before .before .before .before .before .before .args) .s .now) (c .before .before .before .before .before .loop .at)
+    (c .before .before .before .value-of .result) (c .before .before .before .value-of .ensures)) in omega (arith, w .forward, w .fits)
 
 loop-again : tie.Need-loop-again Inv-loop μ-loop
-loop-again c = let w = subst (Walks (fieldOf asText 0) ((c .before .before .before .before .before .before .before .args) .s .now) (c .before .before .before .before .before .loop .at)) (c .before .end .given .1) (text-walks 0 ((c .before .before .before .before .before .before .before .args) .s .now) (c .before .before .before .before .before .loop .at) (c .before .before .before .value-of .result) (c .before .before .before .value-of .ensures)) in (w .fits, ((c .before .before .before .before .before .loop .inv) .1 .0 + 1, left-next ((c .before .before .before .before .before .loop .inv) .1 .1) (w .value) ((c .before .end .given) .0 .0) (c .before .before .before .before .loop-test .taken) (omega (arith, w .forward)) (w .is)))
+loop-again c = let w = subst (Walks (fieldOf asText 0) ((c .before .before .before .before .before .before .before .args) .s .now)
+    (c .before .before .before .before .before .loop .at)) (c .before .end .given .1)
+    (text-walks 0 ((c .before .before .before .before .before .before .before .args) .s .now) (c .before .before .before .before .before .loop .at)
+    (c .before .before .before .value-of .result) (c .before .before .before .value-of .ensures)) in (
+      w .fits,
+      (
+        (c .before .before .before .before .before .loop .inv) .1 .0 + 1,
+        left-next ((c .before .before .before .before .before .loop .inv) .1 .1)
+            (w .value) ((c .before .end .given) .0 .0) (c .before .before .before .before .loop-test .taken) (omega (arith, w .forward)) (w .is),
+      ),
+    )
 
 returns-2 : tie.Need-returns-2 Inv-loop μ-loop
 returns-2 c = texts-end ((c .before .loop .inv) .1 .1) (search needs)

@@ -24,8 +24,17 @@ put-steps-requires c κs =
 close-requires : tie.Need-close-requires
 close-requires c κs =
     let t = c .before .before .before .before .before .before .before .before .before .before .before .before .before .before .put-top .ensures .0 in
-    let r = c .before .before .before .before .before .before .before .before .put-steps .ensures .0 in
-    (omega (arith, t .0, subst (EndsBehind _) (c .before .before .end .given .1) (r .ends)), search needs, omega (arith, c .before .before .before .before .before .before .before .before .before .before .before .before .before .before .before .before .before .before .before .before .before .before .before .before .before .pre .2, t .2, r .kept))
+    let r = c .before .before .before .before .before .before .before .before .put-steps .ensures .0 in (
+      omega (arith, t .0, subst (EndsBehind _) (c .before .before .end .given .1) (r .ends)),
+      search needs,
+      omega (
+        arith,
+        c .before .before .before .before .before .before .before .before .before .before .before .before .before .before .before .before .before
+            .before .before .before .before .before .before .before .before .pre .2,
+        t .2,
+        r .kept,
+      ),
+    )
 
 returns : tie.Need-returns
 returns c = (
@@ -40,7 +49,10 @@ returns-2 c =
     let r = c .before .before .before .before .before .before .before .put-steps .ensures in (
       record { ends = tt; kept = r .0 .kept ∙ c .before .before .before .before .before .before .before .before .before .before .before .before .before .put-top .ensures .0 .2; lines-kept = r .0 .lines-kept },
       λ y g st.
-          let t = subst (AgreesTop _ (topOf y)) (c .before .before .before .before .before .before .before .before .before .before .before .before .before .before .before .before .top .given .1) (c .before .before .before .before .before .before .before .before .before .before .before .before .before .before .before .before .before .before .read-top .ensures .1 y g st) in
+          let t = subst (AgreesTop _ (topOf y))
+          (c .before .before .before .before .before .before .before .before .before .before .before .before .before .before .before .before .top .given .1)
+          (c .before .before .before .before .before .before .before .before .before .before .before .before .before .before .before .before .before .before
+          .read-top .ensures .1 y g st) in
           steps-refused ls y (t .is) (subst (AgreesSteps (stepsFrom 1 ls (t .top .steps)) stepsItem (λ ss. ss) ls _ _ _ _ _) (c .before .e2 .given .1) (r .1 (t .top .steps) (t .stands .steps))),
     )
 
@@ -53,7 +65,11 @@ returns-3 c =
     let l = c .before .before .close .ensures in (
       record { ends = omega (arith, q .0 .0, subst (EndsBehind _) (c .before .before .before .before .before .end .given .1) (r .0 .ends)); kept = l .1 ∙ r .0 .kept ∙ q .0 .2; lines-kept = r .0 .lines-kept },
       λ y g st.
-          let t = subst (AgreesTop _ (topOf y)) (c .before .before .before .before .before .before .before .before .before .before .before .before .before .before .before .before .before .before .before .before .top .given .1) (c .before .before .before .before .before .before .before .before .before .before .before .before .before .before .before .before .before .before .before .before .before .before .read-top .ensures .1 y g st) in
+          let t = subst (AgreesTop _ (topOf y))
+          (c .before .before .before .before .before .before .before .before .before .before .before .before .before .before .before .before .before .before
+          .before .before .top .given .1)
+          (c .before .before .before .before .before .before .before .before .before .before .before .before .before .before .before .before .before .before
+          .before .before .before .before .read-top .ensures .1 y g st) in
           record-wrote ls y (t .is) (q .1 (t .top) (t .stands)) (subst (AgreesSteps (stepsFrom 1 ls (t .top .steps)) stepsItem (λ ss. ss) ls _ _ _ _ _) (c .before .before .before .before .before .end .given .1) (r .1 (t .top .steps) (t .stands .steps))) (l .0) (l .1),
     )
 

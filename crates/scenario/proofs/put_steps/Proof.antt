@@ -1,7 +1,7 @@
 -- The invariant: for whatever items stand there, the steps of those before `i` and their lines are stored. Assumes nothing.
 use borrow.Author.Needs.{needs}
 use mathlib.Core.Path.{_≡_, refl, sym, subst, _∙_}
-use Prim.Native.Nat.{_+_, _*_, _-_, _≤_}
+use Prim.Native.Nat.{_+_, _*_, _-_, _≤_, _^_}
 use native.Mathlib.Omega.{arith}
 use lib.ListN.{length, drop}
 use Rattle.item.specs.Tree.{Items}
@@ -16,7 +16,10 @@ use Rattle.scenario.proofs.put_steps.Statement.{statement}
 use Rattle.scenario.proofs.put_steps.Tie as tie
 
 abbrev Inv-loop : tie.InvT-loop
-Inv-loop s range text table count out₀ at lines₀ first i₀ p₀ steps₀ d₀ out lines i p steps d = (range .from ≤ i) × (i ≤ length s) × (steps ≤ i - range .from) × (at + 6 ≤ p) × (p ≤ at + 6 + 16777216 * (i - range .from)) × (d ≤ count) × (length out ≡ length out₀) × (length lines ≡ length lines₀) × ((ys : Items) → Holds s (range .from) (range .to) ys → Walked s (range .to) i ys (stepLines (tableLines text table count)) (dashesAt (first .indent) (drop d (tableLines text table count))) out₀ out (at + 6) p lines₀ lines steps)
+Inv-loop s range text table count out₀ at lines₀ first i₀ p₀ steps₀ d₀ out lines i p steps d = (range .from ≤ i) × (i ≤ length s) × (steps ≤ i - range .from)
+    × (at + 6 ≤ p) × (p ≤ at + 6 + 2 ^ 24 * (i - range .from)) × (d ≤ count) × (length out ≡ length out₀) × (length lines ≡ length lines₀)
+    × ((ys : Items) → Holds s (range .from) (range .to) ys → Walked s (range .to) i ys (stepLines (tableLines text table count))
+    (dashesAt (first .indent) (drop d (tableLines text table count))) out₀ out (at + 6) p lines₀ lines steps)
 
 abbrev μ-loop : tie.MeasureT-loop
 μ-loop s range text table count out₀ at lines₀ first i₀ p₀ steps₀ d₀ out lines i p steps d = range .to - i
@@ -58,12 +61,24 @@ returns-2 c =
       record { ends = tt; kept = subst (PartNear _ _ _ _) g (r .0) ∙ v .6; lines-kept = v .7 },
       λ ys h.
           let k = v .8 ys h in
-          let t = item-turn (k .rest) (c .before .before .before .before .before .before .before .before .before .before .before .before .before .before .before .before .before .before .before .before .before .pre .1) (c .before .before .before .before .before .before .before .before .before .before .before .before .if1 .taken) (k .holds) (sym (c .before .before .before .before .before .before .before .before .before .item .given .1) ∙ c .before .before .before .before .before .before .before .before .before .before .before .item-at .ensures) in
+          let t = item-turn (k .rest)
+          (c .before .before .before .before .before .before .before .before .before .before .before .before .before .before .before .before .before .before
+          .before .before .before .pre .1) (c .before .before .before .before .before .before .before .before .before .before .before .before .if1 .taken)
+          (k .holds) (sym (c .before .before .before .before .before .before .before .before .before .item .given .1)
+          ∙ c .before .before .before .before .before .before .before .before .before .before .before .item-at .ensures) in
           walk-refused k (c .before .before .before .before .before .before .before .next-dash .ensures) t _ g (r .1),
     )
 
 add-steps : tie.Need-add-steps Inv-loop μ-loop
-add-steps c = let v = c .before .before .before .before .before .before .before .before .before .before .before .before .before .before .before .before .before .before .loop .inv in omega (arith, v .1, v .2, c .before .before .before .before .before .before .before .before .before .before .before .before .before .before .before .before .before .before .before .before .before .before .before .before .before .pre .1)
+add-steps c = let v = c .before .before .before .before .before .before .before .before .before .before .before .before .before .before .before .before .before
+    .before .loop .inv in
+    omega (
+      arith,
+      v .1,
+      v .2,
+      c .before .before .before .before .before .before .before .before .before .before .before .before .before .before .before .before
+          .before .before .before .before .before .before .before .before .before .pre .1,
+    )
 
 loop-less : tie.Need-loop-less Inv-loop μ-loop
 loop-less c =
@@ -90,7 +105,11 @@ loop-again c =
       w .1 ∙ v .7,
       λ ys h.
           let k = v .8 ys h in
-          walk-on k n (item-turn (k .rest) (c .before .before .before .before .before .before .before .before .before .before .before .before .before .before .before .before .before .before .before .before .before .before .before .before .before .pre .1) (c .before .before .before .before .before .before .before .before .before .before .before .before .before .before .before .before .if1 .taken) (k .holds) e) g (r .1) (w .0) (w .1),
+          walk-on k n (item-turn (k .rest)
+          (c .before .before .before .before .before .before .before .before .before .before .before .before .before .before .before .before .before .before
+          .before .before .before .before .before .before .before .pre .1)
+          (c .before .before .before .before .before .before .before .before .before .before .before .before .before .before .before .before .if1 .taken)
+          (k .holds) e) g (r .1) (w .0) (w .1),
     )
 
 close-requires : tie.Need-close-requires Inv-loop μ-loop

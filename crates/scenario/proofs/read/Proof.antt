@@ -51,7 +51,9 @@ returns-2 c =
     let m = p .ensures .1 (w .wrote .tree) rg st in
     let g = c .before .before .before .end .given in
     let v = record-written _ (stepLines ls) (a .«record» .now) _ (a .lines .now) _ (p .result) m (g .0 .0) (g .0 .1 .0) (g .1) in
-    scenario-long (length (a .work .now)) (length (a .«record» .now)) (length (a .lines .now)) (a .text .now) ls (w .wrote .tree) (w .lined) (w .wrote .is) (v .read) (v .is) (pre .2) (omega (arith, c .before .if1 .left, v .many, p .ensures .0 .lines-kept)) (pre .1) (omega (arith, c .if2 .taken, v .stored .ends, p .ensures .0 .kept))
+    scenario-long (length (a .work .now)) (length (a .«record» .now)) (length (a .lines .now)) (a .text .now) ls (w .wrote .tree) (w .lined) (w .wrote .is)
+    (v .read) (v .is) (pre .2) (omega (arith, c .before .if1 .left, v .many, p .ensures .0 .lines-kept)) (pre .1)
+    (omega (arith, c .if2 .taken, v .stored .ends, p .ensures .0 .kept))
 
 returns-3 : tie.Need-returns-3
 returns-3 c =

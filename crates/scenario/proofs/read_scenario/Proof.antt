@@ -68,9 +68,13 @@ returns-2 c =
     let g = c .before .before .before .before .before .before .before .before .before .before .before .before .before .e .given in (
       ap answerOf (sym (g .1)) ∙ told-is x (a .work .now) _ (a .«record» .now) _ (a .lines .now) _ (cw .result) (cr .result) (cl .result) hw hr hl (r .result) v,
       (
-        c .before .before .before .before .before .before .before .before .before .before .zero-bytes .ensures ∙ zeros-out x (a .work .now) _ (a .«record» .now) _ (a .lines .now) _ (cw .result) (cr .result) (cl .result) hw hr hl (r .result) v (g .0 .0) (g .1) treeBytes (a .work .now) (r .last .1 .1 .0) (cw .result) hw (r .kept .1 .1 .0),
+        c .before .before .before .before .before .before .before .before .before .before .zero-bytes .ensures
+            ∙ zeros-out x (a .work .now) _ (a .«record» .now) _ (a .lines .now) _ (cw .result) (cr .result) (cl .result) hw hr hl (r .result) v (g .0 .0)
+            (g .1) treeBytes (a .work .now) (r .last .1 .1 .0) (cw .result) hw (r .kept .1 .1 .0),
         (
-          c .before .before .before .before .before .before .zero-bytes2 .ensures ∙ zeros-out x (a .work .now) _ (a .«record» .now) _ (a .lines .now) _ (cw .result) (cr .result) (cl .result) hw hr hl (r .result) v (g .0 .0) (g .1) recordBytes (a .«record» .now) (r .last .1 .1 .1 .0) (cr .result) hr (r .kept .1 .1 .1 .0),
+          c .before .before .before .before .before .before .zero-bytes2 .ensures ∙ zeros-out x (a .work .now) _ (a .«record» .now) _ (a .lines .now) _
+              (cw .result) (cr .result) (cl .result) hw hr hl (r .result) v (g .0 .0) (g .1) recordBytes (a .«record» .now) (r .last .1 .1 .1 .0)
+              (cr .result) hr (r .kept .1 .1 .1 .0),
           c .before .before .zero-numbers .ensures ∙ zeros-out x (a .work .now) _ (a .«record» .now) _ (a .lines .now) _ (cw .result) (cr .result) (cl .result) hw hr hl (r .result) v (g .0 .0) (g .1) stepNumbers (a .lines .now) (r .last .1 .1 .1 .1 .0) (cl .result) hl (r .kept .1 .1 .1 .1 .0),
         ),
       ),

@@ -1,7 +1,7 @@
 -- The invariant: for whatever items stand there, the texts of those before `i` are stored. Assumes nothing.
 use borrow.Author.Needs.{needs}
 use mathlib.Core.Path.{_≡_, refl, sym, ap, subst, _∙_}
-use Prim.Native.Nat.{_+_, _*_, _-_, _≤_}
+use Prim.Native.Nat.{_+_, _*_, _-_, _≤_, _^_}
 use native.Mathlib.Omega.{arith}
 use lib.ListN.{length}
 use Rattle.item.specs.Tree.{Items}
@@ -14,7 +14,9 @@ use Rattle.top.proofs.put_tags.Statement.{statement}
 use Rattle.top.proofs.put_tags.Tie as tie
 
 abbrev Inv-loop : tie.InvT-loop
-Inv-loop s range out₀ at i₀ p₀ out i p = (range .from ≤ i) × (at + 6 ≤ p) × (p ≤ at + 6 + 2097152 * (i - range .from)) × (p ≤ at + 6 + 2097152 * (range .to - range .from)) × (length out ≡ length out₀) × ((ys : Items) → Holds s (range .from) (range .to) ys → TagsRest s (range .to) i ys out₀ out (at + 6) p)
+Inv-loop s range out₀ at i₀ p₀ out i p = (range .from ≤ i) × (at + 6 ≤ p) × (p ≤ at + 6 + 2 ^ 21 * (i - range .from))
+    × (p ≤ at + 6 + 2 ^ 21 * (range .to - range .from)) × (length out ≡ length out₀)
+    × ((ys : Items) → Holds s (range .from) (range .to) ys → TagsRest s (range .to) i ys out₀ out (at + 6) p)
 
 abbrev μ-loop : tie.MeasureT-loop
 μ-loop s range out₀ at i₀ p₀ out i p = range .to - i

@@ -4,7 +4,7 @@ use mathlib.Core.Path.{sym, subst, _∙_}
 use borrow.Author.Tests.{not-true, not-false}
 use Rattle.refusal.specs.Base.{bytes}
 use Rattle.item.specs.Tree.{get}
-use Rattle.top.specs.Contract.{scalarOf, KnownKeys, AgreesScalar}
+use Rattle.top.specs.Contract.{scalarText, KnownKeys, AgreesScalar}
 use Rattle.top.proofs.Parts.{front-value, top-21, root, top-22, top-24, top-23, passed}
 use Rattle.top.proofs.read_top.Statement.{statement}
 use Rattle.top.proofs.read_top.Tie as tie
@@ -32,7 +32,7 @@ returns-3 c = (
       let m = root y i k in
       let n = subst (KnownKeys (m .entries)) (not-false (c .before .before .before .before .before .known-keys .result) (c .before .before .before .before .if2 .left)) (c .before .before .before .before .before .known-keys .ensures (m .entries) (m .holds)) in
       let f = c .before .before .find .ensures .1 (m .entries) (m .holds) in
-      top-24 y i k n (subst (AgreesScalar (scalarOf (get (bytes "schema") (m .entries)))) (not-true (c .before .is-scalar .result) (c .if3 .taken)) (c .before .is-scalar .ensures _ f)),
+      top-24 y i k n (subst (AgreesScalar (scalarText (get (bytes "schema") (m .entries)))) (not-true (c .before .is-scalar .result) (c .if3 .taken)) (c .before .is-scalar .ensures _ f)),
 )
 
 returns-4 : tie.Need-returns-4
@@ -43,9 +43,11 @@ returns-4 c = (
       let i = front-value y g st (c .before .before .before .before .before .before .before .before .before .before .value-of .ensures .1) in
       let k = c .before .before .before .before .before .before .before .before .if1 .left in
       let m = root y i k in
-      let n = subst (KnownKeys (m .entries)) (not-false (c .before .before .before .before .before .before .before .known-keys .result) (c .before .before .before .before .before .before .if2 .left)) (c .before .before .before .before .before .before .before .known-keys .ensures (m .entries) (m .holds)) in
+      let n = subst (KnownKeys (m .entries)) (not-false (c .before .before .before .before .before .before .before .known-keys .result)
+      (c .before .before .before .before .before .before .if2 .left))
+      (c .before .before .before .before .before .before .before .known-keys .ensures (m .entries) (m .holds)) in
       let f = c .before .before .before .before .find .ensures .1 (m .entries) (m .holds) in
-      let t = subst (AgreesScalar (scalarOf (get (bytes "schema") (m .entries)))) (not-false (c .before .before .before .is-scalar .result) (c .before .before .if3 .left)) (c .before .before .before .is-scalar .ensures _ f) in
+      let t = subst (AgreesScalar (scalarText (get (bytes "schema") (m .entries)))) (not-false (c .before .before .before .is-scalar .result) (c .before .before .if3 .left)) (c .before .before .before .is-scalar .ensures _ f) in
       top-23 y i k n t (sym (not-true (c .before .is-schema .result) (c .if4 .taken)) ∙ c .before .is-schema .ensures _ f),
 )
 
@@ -58,9 +60,11 @@ returns-5 c =
           let i = front-value y g st (c .before .before .before .before .before .before .before .before .before .before .before .value-of .ensures .1) in
           let k = c .before .before .before .before .before .before .before .before .before .if1 .left in
           let m = root y i k in
-          let n = subst (KnownKeys (m .entries)) (not-false (c .before .before .before .before .before .before .before .before .known-keys .result) (c .before .before .before .before .before .before .before .if2 .left)) (c .before .before .before .before .before .before .before .before .known-keys .ensures (m .entries) (m .holds)) in
+          let n = subst (KnownKeys (m .entries)) (not-false (c .before .before .before .before .before .before .before .before .known-keys .result)
+          (c .before .before .before .before .before .before .before .if2 .left))
+          (c .before .before .before .before .before .before .before .before .known-keys .ensures (m .entries) (m .holds)) in
           let f = c .before .before .before .before .before .find .ensures .1 (m .entries) (m .holds) in
-          let t = subst (AgreesScalar (scalarOf (get (bytes "schema") (m .entries)))) (not-false (c .before .before .before .before .is-scalar .result) (c .before .before .before .if3 .left)) (c .before .before .before .before .is-scalar .ensures _ f) in
+          let t = subst (AgreesScalar (scalarText (get (bytes "schema") (m .entries)))) (not-false (c .before .before .before .before .is-scalar .result) (c .before .before .before .if3 .left)) (c .before .before .before .before .is-scalar .ensures _ f) in
           r .1 y (m .entries) (passed y i k n t (sym (not-false (c .before .before .is-schema .result) (c .before .if4 .left)) ∙ c .before .before .is-schema .ensures _ f)) (m .holds),
     )
 

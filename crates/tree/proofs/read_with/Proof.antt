@@ -62,7 +62,10 @@ returns-5 c =
     let b = c .before .bytes .given in
     let f = lines-read (a .text .now) _ (r .result) (r .ensures) (n .0 .0) (n .1) in
     let small : length (a .text .now) ≤ 65535 = omega (arith, c .before .before .before .before .before .before .before .before .before .before .before .before .before .before .before .before .if1 .left) in
-    read-lined (a .text .now) _ (a .out .now) _ (n .0 .0) (b .0 .0) small (search needs) (sym (u .ensures) ∙ not-false (u .result) (c .before .before .before .before .before .before .before .before .before .before .before .before .before .before .if2 .left)) pre f (tree-read _ (a .out .now) _ (t .result) (t .ensures) (b .0 .0) (b .1))
+    read-lined (a .text .now) _ (a .out .now) _ (n .0 .0) (b .0 .0) small (search needs)
+    (sym (u .ensures) ∙ not-false (u .result)
+    (c .before .before .before .before .before .before .before .before .before .before .before .before .before .before .if2 .left)) pre f
+    (tree-read _ (a .out .now) _ (t .result) (t .ensures) (b .0 .0) (b .1))
 
 pub read-with-spec : {M : Type 1} → statement M
 read-with-spec =

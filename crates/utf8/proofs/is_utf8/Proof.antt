@@ -5,7 +5,7 @@ use Prim.Native.Nat.{_+_, _-_, _≤_}
 use lib.ListN.{length, drop}
 use Rattle.utf8.specs.Utf8.{utf8From, isUtf8}
 use Rattle.utf8.specs.Contract.{dueOf, goesOn}
-use Rattle.utf8.specs.declared.Step.{Step}
+use Rattle.utf8.specs.declared.After.{After}
 use Rattle.utf8.proofs.Rows.{ended, turned}
 use Rattle.utf8.proofs.is_utf8.Statement.{statement}
 use Rattle.utf8.proofs.is_utf8.Tie as tie
@@ -26,14 +26,14 @@ returns c =
     let s = c .before .before .before .before .before .before .before .args .text .now in
     let l = c .before .before .before .before .before .loop in
     let r = c .before .before .next in
-    sym (l .inv .1 ∙ turned s (l .at) (dueOf (l .d .left) (l .d .low) (l .d .high)) (r .result) (c .before .before .before .before .loop-test .taken) (r .ensures) ∙ ap (λ (x : Step). goesOn x (drop (l .at + 1) s)) (c .enum-told .given .1))
+    sym (l .inv .1 ∙ turned s (l .at) (dueOf (l .d .left) (l .d .low) (l .d .high)) (r .result) (c .before .before .before .before .loop-test .taken) (r .ensures) ∙ ap (λ (x : After). goesOn x (drop (l .at + 1) s)) (c .enum-told .given .1))
 
 loop-again : tie.Need-loop-again Inv-loop μ-loop
 loop-again c =
     let s = c .before .before .before .before .before .before .before .before .args .text .now in
     let l = c .before .before .before .before .before .before .loop in
     let r = c .before .before .before .next in
-    (search needs, l .inv .1 ∙ turned s (l .at) (dueOf (l .d .left) (l .d .low) (l .d .high)) (r .result) (c .before .before .before .before .before .loop-test .taken) (r .ensures) ∙ ap (λ (x : Step). goesOn x (drop (l .at + 1) s)) (c .before .then .given .1))
+    (search needs, l .inv .1 ∙ turned s (l .at) (dueOf (l .d .left) (l .d .low) (l .d .high)) (r .result) (c .before .before .before .before .before .loop-test .taken) (r .ensures) ∙ ap (λ (x : After). goesOn x (drop (l .at + 1) s)) (c .before .then .given .1))
 
 returns-2 : tie.Need-returns-2 Inv-loop μ-loop
 returns-2 c =

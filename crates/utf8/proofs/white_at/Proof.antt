@@ -27,18 +27,32 @@ returns-4 c =
 
 returns-5 : tie.Need-returns-5
 returns-5 c =
-    let a = c .before .before .before .before .before .before .before .before .before .before .args in
-    (sym (white-cut-two (a .s .now) (a .at) (a .to) (search needs) (sym (c .before .before .before .before .before .before .one-byte .ensures) ∙ c .before .before .before .before .before .if2 .left) (sym (c .before .before .two-bytes .ensures) ∙ c .before .if4 .left) (search needs) (search needs)), search needs)
+    let a = c .before .before .before .before .before .before .before .before .before .before .args in (
+      sym (white-cut-two (a .s .now) (a .at) (a .to) (search needs) (sym (c .before .before .before .before .before .before .one-byte .ensures)
+          ∙ c .before .before .before .before .before .if2 .left) (sym (c .before .before .two-bytes .ensures) ∙ c .before .if4 .left) (search needs)
+          (search needs)),
+      search needs,
+    )
 
 returns-6 : tie.Need-returns-6
 returns-6 c =
-    let a = c .before .before .before .before .before .before .before .before .before .before .before .before .before .args in
-    (sym (white-three (a .s .now) (a .at) (a .to) (search needs) (sym (c .before .before .before .before .before .before .before .before .before .one-byte .ensures) ∙ c .before .before .before .before .before .before .before .before .if2 .left) (sym (c .before .before .before .before .before .two-bytes .ensures) ∙ c .before .before .before .before .if4 .left) (search needs) (sym (c .before .three-bytes .ensures) ∙ c .if6 .taken)), search needs)
+    let a = c .before .before .before .before .before .before .before .before .before .before .before .before .before .args in (
+      sym (white-three (a .s .now) (a .at) (a .to) (search needs)
+          (sym (c .before .before .before .before .before .before .before .before .before .one-byte .ensures)
+          ∙ c .before .before .before .before .before .before .before .before .if2 .left) (sym (c .before .before .before .before .before .two-bytes .ensures)
+          ∙ c .before .before .before .before .if4 .left) (search needs) (sym (c .before .three-bytes .ensures) ∙ c .if6 .taken)),
+      search needs,
+    )
 
 returns-7 : tie.Need-returns-7
 returns-7 c =
-    let a = c .before .before .before .before .before .before .before .before .before .before .before .before .before .args in
-    (sym (white-none (a .s .now) (a .at) (a .to) (search needs) (sym (c .before .before .before .before .before .before .before .before .before .one-byte .ensures) ∙ c .before .before .before .before .before .before .before .before .if2 .left) (sym (c .before .before .before .before .before .two-bytes .ensures) ∙ c .before .before .before .before .if4 .left) (search needs) (sym (c .before .three-bytes .ensures) ∙ c .if6 .left)), search needs)
+    let a = c .before .before .before .before .before .before .before .before .before .before .before .before .before .args in (
+      sym (white-none (a .s .now) (a .at) (a .to) (search needs)
+          (sym (c .before .before .before .before .before .before .before .before .before .one-byte .ensures)
+          ∙ c .before .before .before .before .before .before .before .before .if2 .left) (sym (c .before .before .before .before .before .two-bytes .ensures)
+          ∙ c .before .before .before .before .if4 .left) (search needs) (sym (c .before .three-bytes .ensures) ∙ c .if6 .left)),
+      search needs,
+    )
 
 pub white-at-spec : {M : Type 1} → statement M
 white-at-spec =

@@ -19,7 +19,10 @@ returns-5 c =
 returns-7 : tie.Need-returns-7
 returns-7 c =
     let a = c .before .before .before .before .before .before .before .before .before .before .args in
-    ends-none (a .s .now) (a .from) (a .to) (λ _ q. c .before .before .before .before .before .before .if2 .left (c .before .before .before .before .before .before .before .white-at .ensures .0 ∙ q)) (λ _ q. c .before .before .before .if4 .left (c .before .before .before .before .white-at2 .ensures .0 ∙ q)) (λ _ q. c .if6 .left (c .before .white-at3 .ensures .0 ∙ q))
+    ends-none (a .s .now) (a .from) (a .to)
+    (λ _ q. c .before .before .before .before .before .before .if2 .left (c .before .before .before .before .before .before .before .white-at .ensures .0
+    ∙ q)) (λ _ q. c .before .before .before .if4 .left (c .before .before .before .before .white-at2 .ensures .0 ∙ q))
+    (λ _ q. c .if6 .left (c .before .white-at3 .ensures .0 ∙ q))
 
 pub white-before-spec : {M : Type 1} → statement M
 white-before-spec =

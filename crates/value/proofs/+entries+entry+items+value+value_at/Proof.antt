@@ -27,7 +27,6 @@ use borrow.Author.Needs.{needs}
 use mathlib.Core.Path.{_≡_, sym, ap, _∙_, subst}
 use native.Mathlib.Omega.{arith}
 use mathlib.Core.List.{List}
-use mathlib.Core.Logic.{_⊎_, ⊎-elim}
 use mathlib.Core.Option.{some}
 use lib.ListN.{length, drop, length-drop, take}
 use borrow.Author.Tests.{not-true, not-false}
@@ -38,7 +37,7 @@ use Rattle.item.specs.Places.{headerAt}
 use Rattle.item.specs.declared.Header.the-variants.{Item}
 use Rattle.item.proofs.Headers.{spans, Spans, header-item, no-header as no-item-there}
 use Rattle.value.specs.Tree.{tree, accepts}
-use Rattle.value.specs.Walks.{Walks, Follows, Read}
+use Rattle.value.specs.Walks.{Walks, EntryFollows, ReadAt}
 use Rattle.value.proofs.Contents.{bytes-of, sequence-content, mapping-content, too-deep, no-kind, no-header, content-refused, content-taken}
 use Rattle.value.proofs.Invariants.{Items-left, items-start, items-end, items-next, items-fail, Entries-left, entries-start, entries-end, entries-next, entries-fail, no-key, other-kind, key-not-utf8, value-refused, key-again, key-new, whole-rest, part-small}
 
@@ -112,7 +111,9 @@ entries-returns :
     entries.Post
     entries-Inv-loop
     entries-μ-loop
-entries-returns t c = entries-fail ((c .before .before .before .before .loop .inv) .1) (c .before .before .before .loop-test .taken) (subst (Follows ((c .before .before .before .before .before .before .args) .levels) ((c .before .before .before .before .before .before .args) .s .now) (c .before .before .before .before .loop .at)) (c .enum-told .given .1) (c .before .before .entry .ensures))
+entries-returns t c = entries-fail ((c .before .before .before .before .loop .inv) .1) (c .before .before .before .loop-test .taken)
+    (subst (EntryFollows ((c .before .before .before .before .before .before .args) .levels) ((c .before .before .before .before .before .before .args) .s .now)
+    (c .before .before .before .before .loop .at)) (c .enum-told .given .1) (c .before .before .entry .ensures))
 
 entries-loop-less :
     (t : ℕ) →
@@ -122,7 +123,9 @@ entries-loop-less :
     entries.Post
     entries-Inv-loop
     entries-μ-loop
-entries-loop-less t c = let w = subst (Follows ((c .before .before .before .before .before .before .before .args) .levels) ((c .before .before .before .before .before .before .before .args) .s .now) (c .before .before .before .before .before .loop .at)) (c .before .end .given .1) (c .before .before .before .entry .ensures) in omega (arith, w .forward, w .fits)
+entries-loop-less t c = let w = subst (EntryFollows ((c .before .before .before .before .before .before .before .args) .levels)
+    ((c .before .before .before .before .before .before .before .args) .s .now) (c .before .before .before .before .before .loop .at))
+    (c .before .end .given .1) (c .before .before .before .entry .ensures) in omega (arith, w .forward, w .fits)
 
 entries-loop-again :
     (t : ℕ) →
@@ -132,7 +135,13 @@ entries-loop-again :
     entries.Post
     entries-Inv-loop
     entries-μ-loop
-entries-loop-again t c = let w = subst (Follows ((c .before .before .before .before .before .before .before .args) .levels) ((c .before .before .before .before .before .before .before .args) .s .now) (c .before .before .before .before .before .loop .at)) (c .before .end .given .1) (c .before .before .before .entry .ensures) in (w .fits, entries-next ((c .before .before .before .before .before .loop .inv) .1) (c .before .before .before .before .loop-test .taken) w)
+entries-loop-again t c = let w = subst (EntryFollows ((c .before .before .before .before .before .before .before .args) .levels)
+    ((c .before .before .before .before .before .before .before .args) .s .now) (c .before .before .before .before .before .loop .at))
+    (c .before .end .given .1) (c .before .before .before .entry .ensures) in (
+      w .fits,
+      entries-next ((c .before .before .before .before .before .loop .inv) .1)
+          (c .before .before .before .before .loop-test .taken) w,
+    )
 
 entries-returns-2 :
     (t : ℕ) →
@@ -191,7 +200,7 @@ module _ {t : ℕ} (c : Value t) where
   abbrev next : ℕ
   next = c .before .end .given .0 .0
 
-  held : Read (tree (levels (head c))) (s (head c)) (to (head c)) next
+  held : ReadAt (tree (levels (head c))) (s (head c)) (to (head c)) next
   held = subst (Walks (tree (levels (head c))) (s (head c)) (to (head c))) (c .before .end .given .1) (c .before .before .before .value-at .ensures)
 
 entry-returns : (t : ℕ) → entry-lts.Need-returns (header-at-reads.Asked, header-at-reads.Learnt, is-utf8-reads.Asked, is-utf8-reads.Learnt, value-at-below t, value-at′.Post, has-key-reads.Asked, has-key-reads.Learnt) (entry-at t) entry.Post
@@ -263,7 +272,9 @@ items-returns :
     items.Post
     items-Inv-loop
     items-μ-loop
-items-returns t c = items-fail ((c .before .before .before .before .loop .inv) .1) (c .before .before .before .loop-test .taken) (subst (Walks (tree ((c .before .before .before .before .before .before .args) .levels)) ((c .before .before .before .before .before .before .args) .s .now) (c .before .before .before .before .loop .at)) (c .enum-told .given .1) (c .before .before .value-at .ensures))
+items-returns t c = items-fail ((c .before .before .before .before .loop .inv) .1) (c .before .before .before .loop-test .taken)
+    (subst (Walks (tree ((c .before .before .before .before .before .before .args) .levels)) ((c .before .before .before .before .before .before .args) .s .now)
+    (c .before .before .before .before .loop .at)) (c .enum-told .given .1) (c .before .before .value-at .ensures))
 
 items-loop-less :
     (t : ℕ) →
@@ -273,7 +284,9 @@ items-loop-less :
     items.Post
     items-Inv-loop
     items-μ-loop
-items-loop-less t c = let w = subst (Walks (tree ((c .before .before .before .before .before .before .before .args) .levels)) ((c .before .before .before .before .before .before .before .args) .s .now) (c .before .before .before .before .before .loop .at)) (c .before .end .given .1) (c .before .before .before .value-at .ensures) in omega (arith, w .forward, w .fits)
+items-loop-less t c = let w = subst (Walks (tree ((c .before .before .before .before .before .before .before .args) .levels))
+    ((c .before .before .before .before .before .before .before .args) .s .now) (c .before .before .before .before .before .loop .at))
+    (c .before .end .given .1) (c .before .before .before .value-at .ensures) in omega (arith, w .forward, w .fits)
 
 items-loop-again :
     (t : ℕ) →
@@ -283,7 +296,10 @@ items-loop-again :
     items.Post
     items-Inv-loop
     items-μ-loop
-items-loop-again t c = let w = subst (Walks (tree ((c .before .before .before .before .before .before .before .args) .levels)) ((c .before .before .before .before .before .before .before .args) .s .now) (c .before .before .before .before .before .loop .at)) (c .before .end .given .1) (c .before .before .before .value-at .ensures) in (w .fits, items-next ((c .before .before .before .before .before .loop .inv) .1) (c .before .before .before .before .loop-test .taken) w)
+items-loop-again t c = let w = subst (Walks (tree ((c .before .before .before .before .before .before .before .args) .levels))
+    ((c .before .before .before .before .before .before .before .args) .s .now) (c .before .before .before .before .before .loop .at))
+    (c .before .end .given .1) (c .before .before .before .value-at .ensures) in
+    (w .fits, items-next ((c .before .before .before .before .before .loop .inv) .1) (c .before .before .before .before .loop-test .taken) w)
 
 items-returns-2 :
     (t : ℕ) →

@@ -44,7 +44,7 @@ use denote.Triple.Table.{entered, cited}
 use denote.Triple.Walked.{says, needs, Stays, stay-none, gave-slice, walkOf, goes-none, goes-gave-slice, Walks, ends-at, walked, walk-meets}
 use denote.Exit.{yes}
 use denote.Triple.Clauses.{ensured, lasts}
-use Rattle.scalar.specs.Contract.{Agrees}
+use Rattle.scalar.specs.Contract.{AgreesParsed}
 use Rattle.scalar.specs.declared.Parsed.{Parsed}
 use Rattle.scalar.specs.declared.Role.{Role}
 use Rattle.scalar.proofs.Parsed as P
@@ -77,7 +77,7 @@ module _ {M : Type 1} (𝓤 : URA M) (H : Heap 𝓤) (A : Atoms 𝓤) (mem : Mem
   Core = tripleOf 𝓤 H A core.signature (core.spec 𝓤 H A mem run)
 
 module _ {M : Type 1} (𝓤 : URA M) (H : Heap 𝓤) (A : Atoms 𝓤) (W : Given 𝓤 H A) (mem : Memory → SProp 𝓤) (run : Routine → Fun 𝓤) (κ κ′ : Lft) (q q′ : Share) (d : Cursor) (c : Bool) (role : Role) (k : ℕ) (b o : ℕ) (γ : GName) (ys : List ℕ) (n : ℕ)
-    (has : Is R.the-row role (EL.vals R.the-type R′.the-laws role)) (k-fits : k < 2 ^ 32) (n-fits : n < 2 ^ 64) (ok : (d .at ≤ length (now (d .line))) × (length (now (d .line)) ≤ 65535) × (n ≤ length ys) × (length ys ≤ 1048576)) where
+    (has : Is R.the-row role (EL.vals R.the-type R′.the-laws role)) (k-fits : k < 2 ^ 32) (n-fits : n < 2 ^ 64) (ok : (d .at ≤ length (now (d .line))) × (length (now (d .line)) ≤ 65535) × (n ≤ length ys) × (length ys ≤ 2 ^ 20)) where
   -- the machine value of role
   abbrev ρ : Val
   ρ = EL.val R.the-type R′.the-laws role
@@ -109,7 +109,7 @@ module _ {M : Type 1} (𝓤 : URA M) (H : Heap 𝓤) (A : Atoms 𝓤) (W : Given
 
   -- what is known of the result, at out's last list
   abbrev Found : Parsed → List ℕ → Type 0
-  Found r zs = Agrees role (definition.value (length ys) k (d .levels) c role n (after (d .at) (now (d .line)))) (now (d .line)) ys zs n r
+  Found r zs = AgreesParsed role (definition.value (length ys) k (d .levels) c role n (after (d .at) (now (d .line)))) (now (d .line)) ys zs n r
 
   abbrev Post : Val → SProp 𝓤
   Post = walkOf 𝓤 H A value.ended stayed (value.clauses 𝓤 H A mem run) .post ((κs, (q, (q′, tt)), tt, a, vals), tt)
@@ -151,7 +151,9 @@ module _ {M : Type 1} (𝓤 : URA M) (H : Heap 𝓤) (A : Atoms 𝓤) (W : Given
     asked : ent 𝓤 (⋆ 𝓤 H A ((‵ (flft κ q) ⊛ ‵ (flft κ′ q′) ⊛ ‵ ftrue) ∷ ‵ Line ∷ ‵ Out ∷ [])) (Core 𝓤 H A mem run .pre to)
     asked =
         qed W ((‵ (flft κ q) ⊛ ‵ (flft κ′ q′) ⊛ ‵ ftrue) ∷ ‵ Line ∷ ‵ Out ∷ []) ∵ says ! ok $ frame ! $
-        nothing ! $ owned ! usize (Is usize) (uint-makes 𝓤 H A W w64) n _ (refl, n-fits) $ fjoin ! $ move ! (2 ∷ 0 ∷ []) $ fjoin ! $ owned ! u32 (Is u32) (uint-makes 𝓤 H A W w32) k _ (refl, k-fits) $ fjoin ! $ owned ! R.the-row (Is R.the-row) (EL.makes R.the-type R′.the-plain 𝓤 H A) role _ has $ fjoin ! $ owned ! bool (Is bool) (bool-makes 𝓤 H A W) c _ refl $ fjoin ! $
+        nothing ! $ owned ! usize (Is usize) (uint-makes 𝓤 H A W w64) n _ (refl, n-fits) $ fjoin ! $ move ! (2 ∷ 0 ∷ []) $ fjoin ! $ owned ! u32 (Is u32)
+        (uint-makes 𝓤 H A W w32) k _ (refl, k-fits) $ fjoin ! $ owned ! R.the-row (Is R.the-row)
+        (EL.makes R.the-type R′.the-plain 𝓤 H A) role _ has $ fjoin ! $ owned ! bool (Is bool) (bool-makes 𝓤 H A W) c _ refl $ fjoin ! $
         owned ! usize (Is usize) (uint-makes 𝓤 H A W w64) (d .levels) _ (refl, level-fits) $ fjoin ! $ owned ! usize (Is usize) (uint-makes 𝓤 H A W w64) (d .at) _ (refl, at-fits) $ fjoin ! $ move ! (1 ∷ 0 ∷ []) $ fjoin ! $ done !
 
     -- what the struct and out own give what the callee asks, and what the struct owns is kept
@@ -169,14 +171,20 @@ module _ {M : Type 1} (𝓤 : URA M) (H : Heap 𝓤) (A : Atoms 𝓤) (W : Given
   exits r u zs e l =
       qed W ((‵ (flft κ q) ⊛ ‵ (flft κ′ q′) ⊛ ‵ ftrue) ∷ ‵ Own ∷ ‵ (finally u8 γ zs) ∷ ‵ (P.the-row .own r (u ∷ [])) ∷ []) ∵
       suffices ! _ (ends-at 𝓤 H A value.ended stayed (value.clauses 𝓤 H A mem run) W ((κs, (q, (q′, tt)), tt, a, vals), tt) u r (tt, (tt, (tt, (tt, (zs, (tt, tt)))))) (tt, (tt, (tt, (tt, (l, (tt, tt))))))) $ says ! e $ frame ! $
-      nothing ! $ owned ! usize (Is usize) (uint-makes 𝓤 H A W w64) n _ (refl, n-fits) $ fjoin ! $ move ! (2 ∷ 0 ∷ []) $ fjoin ! $ owned ! u32 (Is u32) (uint-makes 𝓤 H A W w32) k _ (refl, k-fits) $ fjoin ! $ owned ! R.the-row (Is R.the-row) (EL.makes R.the-type R′.the-plain 𝓤 H A) role _ has $ fjoin ! $ owned ! bool (Is bool) (bool-makes 𝓤 H A W) c _ refl $ fjoin ! $ move ! (1 ∷ 0 ∷ []) $ fjoin ! $ done !
+      nothing ! $ owned ! usize (Is usize) (uint-makes 𝓤 H A W w64) n _ (refl, n-fits) $ fjoin ! $ move ! (2 ∷ 0 ∷ []) $ fjoin ! $ owned ! u32 (Is u32)
+      (uint-makes 𝓤 H A W w32) k _ (refl, k-fits) $ fjoin ! $ owned ! R.the-row (Is R.the-row)
+      (EL.makes R.the-type R′.the-plain 𝓤 H A) role _ has $ fjoin ! $ owned ! bool (Is bool) (bool-makes 𝓤 H A W) c _ refl $ fjoin ! $ move !
+      (1 ∷ 0 ∷ []) $ fjoin ! $ done !
 
   module _ (C : Calls 𝓤 H) (Λ : Loops 𝓤 H) (fm : FmC 𝓤 H (W .laws) C) (known : Triple 𝓤 (C #flow·core) (Core 𝓤 H A mem run)) where
     walk : Holds (hasTy (T′.mir (named 0)) mach) × WT mach → Room u8 (length ys) → ent 𝓤 (onEntry 𝓤 H A value.signature κs (q, (q′, tt)) a vals) (WpFn 𝓤 H C Λ code.function (mach ∷ vbool c ∷ ρ ∷ vint w32 k ∷ s ∷ vint w64 n ∷ []) Post)
     walk wt room =
         qed W (raw (onEntry 𝓤 H A value.signature κs (q, (q′, tt)) a vals) ∷ []) ∵ enter ! C Λ code.function (mach ∷ vbool c ∷ ρ ∷ vint w32 k ∷ s ∷ vint w64 n ∷ []) _ $
         alloc1 ! (λ l₀. alloc1 ! (λ l₁. alloc1 ! (λ l₂. alloc1 ! (λ l₃. alloc1 ! (λ l₄. alloc1 ! (λ l₅. alloc1 ! (λ l₆. alloc1 ! (λ l₇. alloc1 ! (λ l₈. alloc1 ! (λ l₉. alloc1 ! (λ l₁₀. alloc1 ! (λ l₁₁. alloc0 ! $ params1 ! $
-        pass1 ! (init ! 20 refl wt) $ pass1 ! (init ! 18 refl (tt, tt)) $ pass1 ! (init ! 16 refl (EL.lawful R.the-type R′.the-laws 𝓤 H A W tt .typed role _ has .0)) $ pass1 ! (init ! 14 refl (tt, record { fits = k-fits })) $ pass1 ! (init ! 12 refl (tt, (tt, (record { fits = room .0 }, tt)))) $ pass1 ! (init ! 10 refl (tt, record { fits = n-fits })) $ pass0 ! $
+        pass1 ! (init ! 20 refl wt) $ pass1 ! (init ! 18 refl (tt, tt)) $ pass1 !
+        (init ! 16 refl (EL.lawful R.the-type R′.the-laws 𝓤 H A W tt .typed role _ has .0)) $ pass1 !
+        (init ! 14 refl (tt, record { fits = k-fits })) $ pass1 ! (init ! 12 refl (tt, (tt, (record { fits = room .0 }, tt)))) $ pass1 !
+        (init ! 10 refl (tt, record { fits = n-fits })) $ pass0 ! $
         -- [_11; …; _10; …; _9; …; _8; …; _7; …; _6; …; _5; …; _4; …; _3; …; _2; …; _1; …; room for _0; …; what is owned at entry]
         assigns ! (of-opd ! (load ! (from ! (fld ! refl (stop !))) (look-in ! 20 (sub ! 0 refl (whole !))))) (from ! (stop !)) (init ! 8 refl (tt, wt .1 .0)) $
         assigns ! (of-opd ! (load ! (from ! (fld ! refl (stop !))) (look-in ! 20 (sub ! 1 refl (whole !))))) (from ! (stop !)) (init ! 6 refl (tt, wt .1 .1 .0)) $
@@ -185,7 +193,10 @@ module _ {M : Type 1} (𝓤 : URA M) (H : Heap 𝓤) (A : Atoms 𝓤) (W : Given
         assigns ! (agg ! (and-then ! (load ! (from ! (stop !)) (look ! 2 refl)) (and-then ! (load ! (from ! (fld ! refl (stop !))) (look-in ! 12 (sub ! 1 refl (whole !)))) (no-more !)))) (from ! (stop !)) (init ! 0 refl (tt, (tt, (record { fits = room .0 }, tt)))) $
         move ! (24 ∷ []) $ use1 W (raw (Core 𝓤 H A mem run .pre to) ⊛ ‵ Own) (apart (wt .1 .1 .0 .fits) (wt .1 .1 .1 .0 .fits)) $ split ! $
         calls-at ! fm (Core 𝓤 H A mem run) known to (and-then ! (load ! (from ! (stop !)) (look ! 10 refl)) (and-then ! (load ! (from ! (stop !)) (look ! 8 refl)) (and-then ! (load ! (from ! (stop !)) (look ! 6 refl))
-        (and-then ! (load ! (from ! (stop !)) (look ! 20 refl)) (and-then ! (load ! (from ! (stop !)) (look ! 18 refl)) (and-then ! (load ! (from ! (stop !)) (look ! 16 refl)) (and-then ! (load ! (from ! (stop !)) (look ! 2 refl)) (and-then ! (load ! (from ! (stop !)) (look ! 12 refl)) (no-more !))))))))) (λ u.
+        (and-then ! (load ! (from ! (stop !)) (look ! 20 refl))
+        (and-then ! (load ! (from ! (stop !)) (look ! 18 refl))
+        (and-then ! (load ! (from ! (stop !)) (look ! 16 refl))
+        (and-then ! (load ! (from ! (stop !)) (look ! 2 refl)) (and-then ! (load ! (from ! (stop !)) (look ! 12 refl)) (no-more !))))))))) (λ u.
         use1 W (later (some (λ (r : Parsed). ((‵ (flft κ q) ⊛ ‵ (flft κ′ q′) ⊛ ‵ ftrue) ⊛ ‵ (P.the-row .own r (u ∷ []))) ⊛ raw (ensured 𝓤 H A core.ended (core.clauses 𝓤 H A mem run) κs args tt r)))) (id⊢ 𝓤 _) $ await ! tt $ pick ! (λ r.
         -- what `value` ensures, at some last list
         split ! $ move ! (1 ∷ []) $ use1 W (some (λ (zs : Unit {0} × (Unit {0} × (Unit {0} × (Unit {0} × (Unit {0} × (Unit {0} × (List ℕ × (Unit {0} × Unit {0})))))))). ‵ (lasts core.ended κs args zs) ⊛ raw (fact 𝓤 (Found r (zs .1 .1 .1 .1 .1 .1 .0))))) (id⊢ 𝓤 _) $ pick ! (λ zs.
@@ -195,7 +206,9 @@ module _ {M : Type 1} (𝓤 : URA M) (H : Heap 𝓤) (A : Atoms 𝓤) (W : Given
         -- [the result; the tokens; the last list; …; what the struct owns; _11; …; room for _0; …]
         land ! (from ! (stop !)) (init ! 27 refl (EL.lawful P.the-type P′.the-laws 𝓤 H A W tt .typed r _ is .0)) $
         returns ! (look ! 27 refl) $ forget ! 5 refl $ forget ! 7 refl $ forget ! 9 refl $ forget ! 11 refl $ forget ! 13 refl $ forget ! 15 refl $ forget ! 17 refl $ forget ! 19 refl $ forget ! 21 refl $ forget ! 23 refl $ forget ! 25 refl $ forget ! 27 refl $
-        move ! (27 ∷ 28 ∷ []) $ free1 ! $ move ! (25 ∷ 26 ∷ []) $ free1 ! $ move ! (23 ∷ 24 ∷ []) $ free1 ! $ move ! (21 ∷ 22 ∷ []) $ free1 ! $ move ! (19 ∷ 20 ∷ []) $ free1 ! $ move ! (17 ∷ 18 ∷ []) $ free1 ! $ move ! (15 ∷ 16 ∷ []) $ free1 ! $ move ! (13 ∷ 14 ∷ []) $ free1 ! $ move ! (11 ∷ 12 ∷ []) $ free1 ! $ move ! (9 ∷ 10 ∷ []) $ free1 ! $ move ! (7 ∷ 8 ∷ []) $ free1 ! $ move ! (5 ∷ 6 ∷ []) $ free1 ! $ free0 ! $
+        move ! (27 ∷ 28 ∷ []) $ free1 ! $ move ! (25 ∷ 26 ∷ []) $ free1 ! $ move ! (23 ∷ 24 ∷ []) $ free1 ! $ move ! (21 ∷ 22 ∷ []) $ free1 ! $ move !
+        (19 ∷ 20 ∷ []) $ free1 ! $ move ! (17 ∷ 18 ∷ []) $ free1 ! $ move ! (15 ∷ 16 ∷ []) $ free1 ! $ move ! (13 ∷ 14 ∷ []) $ free1 ! $ move !
+        (11 ∷ 12 ∷ []) $ free1 ! $ move ! (9 ∷ 10 ∷ []) $ free1 ! $ move ! (7 ∷ 8 ∷ []) $ free1 ! $ move ! (5 ∷ 6 ∷ []) $ free1 ! $ free0 ! $
         keep ! (1 ∷ 4 ∷ 2 ∷ 0 ∷ []) $ by ! (exits r u (zs .1 .1 .1 .1 .1 .1 .0) e l)))))))))))))))))))
 
 module _ {M : Type 1} (𝓤 : URA M) (H : Heap 𝓤) (A : Atoms 𝓤) (W : Given 𝓤 H A) (mem : Memory → SProp 𝓤) (run : Routine → Fun 𝓤) where
@@ -211,8 +224,19 @@ module _ {M : Type 1} (𝓤 : URA M) (H : Heap 𝓤) (A : Atoms 𝓤) (W : Given
 value-meets : {M : Type 1} (𝓤 : URA M) (H : Heap 𝓤) (A : Atoms 𝓤) (W : Given 𝓤 H A) (mem : Memory → SProp 𝓤) (run : Routine → Fun 𝓤) (𝓣 : Tables 𝓤 H) → Triple 𝓤 (𝓣 .C #flow·core) (Core 𝓤 H A mem run)
     → Meets 𝓤 H A value.signature (WpFn 𝓤 H (𝓣 .C) (𝓣 .Λ) code.function) (value.spec 𝓤 H A mem run)
 value-meets 𝓤 H A W mem run 𝓣 known =
-    walk-meets 𝓤 H A value.ended stayed W
-    (goes-none 𝓤 H A W 2 B yes (λ κs x f. refl), (goes-none 𝓤 H A W 2 (λ _. bool) yes (λ κs x f. refl), (goes-none 𝓤 H A W 2 (λ _. R.the-row) yes (λ κs x f. refl), (goes-none 𝓤 H A W 2 (λ _. u32) yes (λ κs x f. refl), (goes-gave-slice 𝓤 H A W 2 1 tt (plain (λ _. u8)), (goes-none 𝓤 H A W 2 (λ _. usize) yes (λ κs x f. refl), tt))))))
+    walk-meets 𝓤 H A value.ended stayed W (
+      goes-none 𝓤 H A W 2 B yes (λ κs x f. refl),
+      (
+        goes-none 𝓤 H A W 2 (λ _. bool) yes (λ κs x f. refl),
+        (
+          goes-none 𝓤 H A W 2 (λ _. R.the-row) yes (λ κs x f. refl),
+          (
+            goes-none 𝓤 H A W 2 (λ _. u32) yes (λ κs x f. refl),
+            (goes-gave-slice 𝓤 H A W 2 1 tt (plain (λ _. u8)), (goes-none 𝓤 H A W 2 (λ _. usize) yes (λ κs x f. refl), tt)),
+          ),
+        ),
+      ),
+    )
     (value.clauses 𝓤 H A mem run)
     (WpFn 𝓤 H (𝓣 .C) (𝓣 .Λ) code.function) (WpFn-mono 𝓤 H (W .laws) 𝓣 code.function) (value-walks 𝓤 H A W mem run (𝓣 .C) (𝓣 .Λ) (fmOf 𝓤 H (W .laws) 𝓣) known)
 

@@ -1,7 +1,7 @@
 -- The invariant: the digits counted so far, less one, and those of what is left are all of them. Assumes nothing.
 use borrow.Author.Needs.{needs}
 use native.Mathlib.Omega.{arith}
-use Prim.Native.Nat.{_+_, _≤_, _<_}
+use Prim.Native.Nat.{_+_, _≤_, _<_, _^_}
 use mathlib.Core.Path.{_≡_}
 use lib.ListN.{length}
 use Rattle.scalar.specs.Scalars.{decimalOf}
@@ -10,7 +10,7 @@ use Rattle.scalar.proofs.integers.decimal_len.Statement.{statement}
 use Rattle.scalar.proofs.integers.decimal_len.Tie as tie
 
 abbrev Inv-loop : tie.InvT-loop
-Inv-loop n left₀ count₀ left count = (left < 18446744073709551616) × (count + length (decimalOf 20 left) ≤ 21) × (count + length (decimalOf 20 left) ≡ length (decimalOf 20 n) + 1)
+Inv-loop n left₀ count₀ left count = (left < 2 ^ 64) × (count + length (decimalOf 20 left) ≤ 21) × (count + length (decimalOf 20 left) ≡ length (decimalOf 20 n) + 1)
 
 abbrev μ-loop : tie.MeasureT-loop
 μ-loop n left₀ count₀ left count = left

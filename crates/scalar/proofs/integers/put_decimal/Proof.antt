@@ -2,7 +2,7 @@
 use borrow.Author.Needs.{needs}
 use native.Mathlib.Omega.{arith}
 use mathlib.Core.Path.{_≡_, refl, sym, ap, _∙_}
-use Prim.Native.Nat.{_+_, _≤_, _<_}
+use Prim.Native.Nat.{_+_, _≤_, _<_, _^_}
 use lib.ListN.{length, length-set}
 use lib.Seq.{sets}
 use Rattle.scalar.specs.Scalars.{decimalOf}
@@ -11,7 +11,7 @@ use Rattle.scalar.proofs.integers.put_decimal.Statement.{statement}
 use Rattle.scalar.proofs.integers.put_decimal.Tie as tie
 
 abbrev Inv-loop : tie.InvT-loop
-Inv-loop out₀ at n left₀ end₀ out left end = (left < 18446744073709551616) × (length out ≡ length out₀) × (end ≤ length out₀) × (end ≡ at + length (decimalOf 20 left)) × (sets out at (decimalOf 20 left) ≡ sets out₀ at (decimalOf 20 n))
+Inv-loop out₀ at n left₀ end₀ out left end = (left < 2 ^ 64) × (length out ≡ length out₀) × (end ≤ length out₀) × (end ≡ at + length (decimalOf 20 left)) × (sets out at (decimalOf 20 left) ≡ sets out₀ at (decimalOf 20 n))
 
 abbrev μ-loop : tie.MeasureT-loop
 μ-loop out₀ at n left₀ end₀ out left end = left

@@ -23,11 +23,24 @@ returns-4 c = rw (← null-word (c .before .before .before .before .before .befo
 
 returns-5 : tie.Need-returns-5
 unfolding bytes
-returns-5 c = rw (← null-word (c .before .before .before .before .before .before .before .before .before .before .args .t .now) (c .before .before .before .before .before .before .if3 .left), sym (c .before .before .before .before .same-bytes2 .ensures) ∙ c .before .before .before .if4 .left, sym (c .before .same-bytes3 .ensures) ∙ c .if5 .taken)
+returns-5 c = rw (
+  ← null-word (c .before .before .before .before .before .before .before .before .before .before .args .t .now)
+      (c .before .before .before .before .before .before .if3 .left),
+  sym (c .before .before .before .before .same-bytes2 .ensures)
+      ∙ c .before .before .before .if4 .left,
+  sym (c .before .same-bytes3 .ensures) ∙ c .if5 .taken,
+)
 
 returns-6 : tie.Need-returns-6
 unfolding bytes
-returns-6 c = rw (← null-word (c .before .before .before .before .before .before .before .before .before .before .before .before .args .t .now) (c .before .before .before .before .before .before .before .before .if3 .left), sym (c .before .before .before .before .before .before .same-bytes2 .ensures) ∙ c .before .before .before .before .before .if4 .left, sym (c .before .before .before .same-bytes3 .ensures) ∙ c .before .before .if5 .left) (c .same-bytes4 .ensures ∙ sym (or-false _))
+returns-6 c = rw (
+  ← null-word (c .before .before .before .before .before .before .before .before .before .before .before .before .args .t .now)
+      (c .before .before .before .before .before .before .before .before .if3 .left),
+  sym
+      (c .before .before .before .before .before .before .same-bytes2 .ensures) ∙ c .before .before .before .before .before .if4 .left,
+  sym
+      (c .before .before .before .same-bytes3 .ensures) ∙ c .before .before .if5 .left,
+) (c .same-bytes4 .ensures ∙ sym (or-false _))
 
 pub is-null-spec : {M : Type 1} → statement M
 is-null-spec =

@@ -21,11 +21,28 @@ returns-3 c = rw (sym (c .before .before .before .before .before .is-null .ensur
 
 returns-4 : tie.Need-returns-4
 unfolding scalarOf if_then_else_ intOr
-returns-4 c = rw (sym (c .before .before .before .before .before .before .before .before .before .is-null .ensures) ∙ c .before .before .before .before .before .before .before .before .if1 .left, sym (c .before .before .before .before .before .before .before .is-true .ensures) ∙ c .before .before .before .before .before .before .if2 .left, sym (c .before .before .before .before .before .is-false .ensures) ∙ c .before .before .before .before .if3 .left, sym (c .before .before .before .integer .ensures) ∙ ap intOf (c .before .negative .given .1))
+returns-4 c = rw (
+  sym (c .before .before .before .before .before .before .before .before .before .is-null .ensures)
+      ∙ c .before .before .before .before .before .before .before .before .if1 .left,
+  sym
+      (c .before .before .before .before .before .before .before .is-true .ensures) ∙ c .before .before .before .before .before .before .if2 .left,
+  sym
+      (c .before .before .before .before .before .is-false .ensures) ∙ c .before .before .before .before .if3 .left,
+  sym
+      (c .before .before .before .integer .ensures) ∙ ap intOf (c .before .negative .given .1),
+)
 
 returns-5 : tie.Need-returns-5
 unfolding scalarOf if_then_else_ intOr
-returns-5 c = rw (sym (c .before .before .before .before .before .before .before .before .is-null .ensures) ∙ c .before .before .before .before .before .before .before .if1 .left, sym (c .before .before .before .before .before .before .is-true .ensures) ∙ c .before .before .before .before .before .if2 .left, sym (c .before .before .before .before .is-false .ensures) ∙ c .before .before .before .if3 .left, sym (c .before .before .integer .ensures) ∙ ap intOf (c .enum-told .given .1))
+returns-5 c = rw (
+  sym (c .before .before .before .before .before .before .before .before .is-null .ensures)
+      ∙ c .before .before .before .before .before .before .before .if1 .left,
+  sym (c .before .before .before .before .before .before .is-true .ensures)
+      ∙ c .before .before .before .before .before .if2 .left,
+  sym (c .before .before .before .before .is-false .ensures)
+      ∙ c .before .before .before .if3 .left,
+  sym (c .before .before .integer .ensures) ∙ ap intOf (c .enum-told .given .1),
+)
 
 pub kind-of-spec : {M : Type 1} → statement M
 kind-of-spec =

@@ -8,7 +8,9 @@ use Rattle.scalar.proofs.plain_text.null_at.Tie as tie
 
 returns : tie.Need-returns
 unfolding isKey
-returns c = let a = c .before .before .before .before .before .before .args in λ number. puts-agree (a .role) null tt (a .s .now) (a .out .now) (c .before .before .put-null-as .last .1 .1 .0) (a .at) (a .next) number (search needs) (c .before .before .put-null-as .result) (c .before .before .put-null-as .ensures)
+returns c = let a = c .before .before .before .before .before .before .args in
+    λ number. puts-agree (a .role) null tt (a .s .now) (a .out .now) (c .before .before .put-null-as .last .1 .1 .0) (a .at) (a .next) number (search needs)
+    (c .before .before .put-null-as .result) (c .before .before .put-null-as .ensures)
 
 pub null-at-spec : {M : Type 1} → statement M
 null-at-spec = tie.close (tie.spec

@@ -26,7 +26,9 @@ returns : tie.Need-returns Inv-loop μ-loop
 returns c = let l = c .before .loop in let a = c .before .before .before .before .args in let e = plain-none (a .s .now) (l .end) true (omega arith) in rw (c .before .before .if1 .taken) (omega arith, search needs)
 
 returns-2 : tie.Need-returns-2 Inv-loop μ-loop
-returns-2 c = let l = c .before .before .before .loop in let a = c .before .before .before .before .before .before .args in let e = plain-here (a .s .now) (l .end) (search needs) (sym (c .before .stops-plain .ensures) ∙ c .if2 .taken) in rw (c .before .before .before .before .if1 .taken) (omega arith, search needs)
+returns-2 c = let l = c .before .before .before .loop in let a = c .before .before .before .before .before .before .args in
+    let e = plain-here (a .s .now) (l .end) (search needs) (sym (c .before .stops-plain .ensures) ∙ c .if2 .taken) in
+    rw (c .before .before .before .before .if1 .taken) (omega arith, search needs)
 
 returns-3 : tie.Need-returns-3 Inv-loop μ-loop
 returns-3 c = let a = c .before .before .args in rw (c .if1 .left) (omega (arith, plain-top (drop (a .i) (a .s .now)), length-drop (a .i) (a .s .now)), search needs)

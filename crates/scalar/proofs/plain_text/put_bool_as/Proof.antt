@@ -26,7 +26,9 @@ returns-3 c = let a = c .before .before .before .before .args in rw (c .before .
 
 returns-4 : tie.Need-returns-4
 unfolding written cost
-returns-4 c = let a = c .before .before .before .before .before .before .before .before .args in rw (c .before .before .before .before .before .enum-told .given .1) (refl, refl, record { is = c .before .before .put-bool .ensures; grows = omega (arith, written-cost AsValue (bool (a .value)) tt); fits = omega arith })
+returns-4 c = let a = c .before .before .before .before .before .before .before .before .args in
+    rw (c .before .before .before .before .before .enum-told .given .1)
+    (refl, refl, record { is = c .before .before .put-bool .ensures; grows = omega (arith, written-cost AsValue (bool (a .value)) tt); fits = omega arith })
 
 pub put-bool-as-spec : {M : Type 1} → statement M
 put-bool-as-spec =

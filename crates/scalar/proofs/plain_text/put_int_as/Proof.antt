@@ -21,7 +21,17 @@ returns-2 c = let a = c .before .before .before .before .args in rw (c .before .
 
 returns-3 : tie.Need-returns-3
 unfolding written cost
-returns-3 c = let a = c .before .before .before .before .before .before .before .before .args in rw (c .before .before .before .before .before .enum-told .given .1) (refl, refl, record { is = c .before .before .put-int .ensures; grows = omega (arith, written-cost AsValue (int (signed (a .negative) (a .magnitude))) tt); fits = omega arith })
+returns-3 c = let a = c .before .before .before .before .before .before .before .before .args in
+    rw (c .before .before .before .before .before .enum-told .given .1) (
+      refl,
+      refl,
+      record {
+        is = c .before .before .put-int .ensures;
+        grows = omega
+            (arith, written-cost AsValue (int (signed (a .negative) (a .magnitude))) tt);
+        fits = omega arith;
+      },
+    )
 
 pub put-int-as-spec : {M : Type 1} → statement M
 put-int-as-spec =

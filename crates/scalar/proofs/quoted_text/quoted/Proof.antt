@@ -32,7 +32,9 @@ returns-2 : tie.Need-returns-2
 returns-2 c =
     let a = c .before .before .before .before .before .before .before .before .before .before .before .before .before .before .before .args in
     let cap = length (a .out .now) in
-    let k = subst (Spans (quotedOf (a .quote) cap (a .line)) (a .s .now) (a .i)) (c .before .before .before .before .before .before .before .before .before .before .next .given .1) (c .before .before .before .before .before .before .before .before .before .before .before .before .span-of .ensures cap) in
+    let k = subst (Spans (quotedOf (a .quote) cap (a .line)) (a .s .now) (a .i))
+    (c .before .before .before .before .before .before .before .before .before .before .next .given .1)
+    (c .before .before .before .before .before .before .before .before .before .before .before .before .span-of .ensures cap) in
     let e = c .before .before .put-bytes .ensures cap (k .content) _ (k .is) (k .long)
     ∙ ap (λ (l : List ℕ). sets l (a .at + 6) (k .content)) (c .before .before .before .before .before .before .put-header .ensures ∙ ap (λ (n : ℕ). sets (a .out .now) (a .at) (head 3 n)) (sym (k .long)))
     ∙ sets-item (a .out .now) (a .at) 3 (k .content) in

@@ -17,8 +17,8 @@ use Rattle.lines.specs.declared.Literal.{Literal}
 use Rattle.lines.specs.declared.Literal.the-variants.{Closed, Under}
 use Rattle.lines.specs.Lines.{Line, line, splitLines, significantLines, indentOf, tabbed, stripComment, significant, isMarker, opensLiteral, literalOf, literalAfter, Event, entry, eventsOf, blanksBefore, bodyOf, scan, collect}
 use Rattle.lines.specs.Places.{IsRaw, RawAt, rawText, normal, body}
-use Rattle.lines.specs.declared.Step.{Step}
-use Rattle.lines.specs.declared.Step.the-variants.{Next, Refused as Stopped}
+use Rattle.lines.specs.declared.LineTaken.{LineTaken}
+use Rattle.lines.specs.declared.LineTaken.the-variants.{Next, Refused as Stopped}
 use Rattle.lines.specs.Table.{tableLines, Placed, behind, Took, Takes, reading}
 use Rattle.lines.proofs.Laws.{strip-take, indent-tab, indent-white}
 use Rattle.lines.proofs.TableLaws.{took-none, took-both, took-entry, collect-bad, collect-full, collect-blanks}
@@ -147,7 +147,7 @@ module _ (text : List ℕ) (raw : Raw) (ok : IsRaw text raw) where
 
 -- ---- the whole text
 
-pub takes-of : (text old new : List ℕ) (count n : ℕ) (f g : List (List ℕ) → List Event) (r : Step) → ((raws : List (List ℕ)) → f raws ≡ g raws)
+pub takes-of : (text old new : List ℕ) (count n : ℕ) (f g : List (List ℕ) → List Event) (r : LineTaken) → ((raws : List (List ℕ)) → f raws ≡ g raws)
     → Takes text old new count n g r → Takes text old new count n f r
 takes-of text old new count n f g (Next c l w) e t = (t .0, λ raws. took-of (e raws) refl (t .1 raws))
 takes-of text old new count n f g (Stopped x) e t = λ raws. ap (collect (2048 - count)) (e raws) ∙ t raws

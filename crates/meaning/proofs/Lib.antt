@@ -1,0 +1,3 @@
+pub mod Joined
+pub mod Open
+mod Words
