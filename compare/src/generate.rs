@@ -22,6 +22,7 @@ usage: generate [--show] scenario SEED COUNT
        generate [--show] words WORD,WORD.. LENGTH [SEED COUNT]
        generate [--show] boundary
        generate [--show] written < a text in each line, escaped
+       generate [--show] names NAME,NAME..
        generate section KIND [NUMBER NUMBER NUMBER]
        generate end";
 
@@ -79,6 +80,11 @@ fn generate(words: &[&str], out: &mut Out) -> Result<(), String> {
             let line = line.map_err(|error| error.to_string())?;
             out.put(&unescape(&line)?).map_err(|error| error.to_string())
         }),
+        ["names", list] => {
+            let names = list.split(',').map(unescape).collect::<Result<Vec<_>, _>>()?;
+            out.put(&item(4, &names.iter().flat_map(|name| item(3, name)).collect::<Vec<_>>()))
+                .map_err(|error| error.to_string())
+        }
         ["section", kind] => begin(kind, [0; 3], out),
         ["section", kind, a, b, c] => begin(kind, [number(a)?, number(b)?, number(c)?], out),
         ["end"] => section::end(&mut out.to).map_err(|error| error.to_string()),
@@ -88,6 +94,11 @@ fn generate(words: &[&str], out: &mut Out) -> Result<(), String> {
 
 fn begin(kind: &str, numbers: [u32; 3], out: &mut Out) -> Result<(), String> {
     section::begin(&mut out.to, kind, numbers).map_err(|error| error.to_string())
+}
+
+fn item(kind: u16, content: &[u8]) -> Vec<u8> {
+    let size = (content.len() as u32).to_le_bytes();
+    [&size[..], &kind.to_le_bytes(), content].concat()
 }
 
 fn number<T: std::str::FromStr>(word: &str) -> Result<T, String> {

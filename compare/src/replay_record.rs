@@ -2,10 +2,14 @@
 //! the argument has, and prints what must be printed of them. Records come in as lines of
 //! hexadecimal text.
 
-use std::collections::HashSet;
 use std::fs::OpenOptions;
 use std::io::{self, BufRead, Write};
 
+#[path = "decide.rs"]
+#[allow(dead_code)]
+mod decide;
+#[path = "making.rs"]
+mod making;
 #[path = "random.rs"]
 #[allow(dead_code)]
 mod random;
@@ -15,212 +19,31 @@ mod section;
 #[allow(dead_code)]
 mod writing;
 
+use decide::{BUILT_IN_STEPS, LONGEST, STEP_FIELDS, items, record};
+use making::{
+    Inner, Leaf, NOT_UTF8, Node, list, map, node, null, one_step, scenario, string, written,
+};
 use random::Random;
 use writing::write_text;
 
-const LONGEST: usize = 1_048_576;
-const STEP_FIELDS: [&str; 5] = ["name", "id", "timeout", "continue_on_error", "expect"];
-const BUILT_IN_STEPS: [&str; 5] = ["repeat", "set", "delay", "expect_not", "ui.expect"];
-
-// ---- the decision: the layout of document 01, section 5, then its rules
-
-struct Item<'a> {
-    kind: u16,
-    start: usize,
-    end: usize,
-    content: &'a [u8],
-}
-
-/// All of a content as items; `start` is where it begins in the record.
-fn items(mut content: &[u8], mut start: usize) -> Option<Vec<Item<'_>>> {
-    let mut found = Vec::new();
-    while !content.is_empty() {
-        let (length, rest) = content.split_first_chunk::<4>()?;
-        let (kind, rest) = rest.split_first_chunk::<2>()?;
-        let (inner, rest) = rest.split_at_checked(u32::from_le_bytes(*length) as usize)?;
-        let end = start + 6 + inner.len();
-        found.push(Item { kind: u16::from_le_bytes(*kind), start, end, content: inner });
-        (content, start) = (rest, end);
-    }
-    Some(found)
-}
-
-enum Value<'a> {
-    Null,
-    Bool,
-    Int,
-    Str(&'a str),
-    Seq(Vec<Value<'a>>),
-    Map(Vec<(&'a str, Value<'a>)>),
-}
-
-fn value<'a>(item: &Item<'a>) -> Option<Value<'a>> {
-    let inner = || items(item.content, 0);
-    match item.kind {
-        0 => item.content.is_empty().then_some(Value::Null),
-        1 => matches!(item.content, [0] | [1]).then_some(Value::Bool),
-        2 => <[u8; 8]>::try_from(item.content).ok().map(|_| Value::Int),
-        3 => std::str::from_utf8(item.content).ok().map(Value::Str),
-        4 => inner()?.iter().map(value).collect::<Option<_>>().map(Value::Seq),
-        5 => inner()?
-            .chunks(2)
-            .map(|pair| match pair {
-                [key, held] => match value(key)? {
-                    Value::Str(key) => Some((key, value(held)?)),
-                    _ => None,
-                },
-                _ => None,
-            })
-            .collect::<Option<_>>()
-            .map(Value::Map),
-        _ => None,
-    }
-}
-
-fn levels(value: &Value) -> usize {
-    match value {
-        Value::Seq(items) => 1 + items.iter().map(levels).max().unwrap_or(0),
-        Value::Map(entries) => 1 + entries.iter().map(|(_, v)| levels(v)).max().unwrap_or(0),
-        _ => 0,
-    }
-}
-
-fn keys_differ(value: &Value) -> bool {
-    match value {
-        Value::Seq(items) => items.iter().all(keys_differ),
-        Value::Map(entries) => {
-            let keys: HashSet<_> = entries.iter().map(|(key, _)| key).collect();
-            keys.len() == entries.len() && entries.iter().all(|(_, v)| keys_differ(v))
-        }
-        _ => true,
-    }
-}
-
-fn tree<'a>(item: &Item<'a>, deepest: usize) -> Option<Value<'a>> {
-    value(item).filter(|value| levels(value) <= deepest && keys_differ(value))
-}
-
-fn text<'a>(item: &Item<'a>) -> Option<&'a str> {
-    match value(item)? {
-        Value::Str(text) => Some(text),
-        _ => None,
-    }
-}
-
-fn text_or_null(item: &Item) -> Option<()> {
-    matches!(value(item)?, Value::Null | Value::Str(_)).then_some(())
-}
-
-fn step(content: &[u8]) -> Option<()> {
-    let parts = items(content, 0)?;
-    let [name, id, key, held, timeout, go_on, expect] = parts.as_slice() else { return None };
-    text(name)?;
-    text(id)?;
-    let key = text(key)?;
-    tree(held, 29)?;
-    text_or_null(timeout)?;
-    matches!(value(go_on)?, Value::Bool).then_some(())?;
-    let beside = match tree(expect, 29)? {
-        Value::Null => false,
-        Value::Map(_) => true,
-        _ => return None,
-    };
-    (!STEP_FIELDS.contains(&key) && !(beside && BUILT_IN_STEPS.contains(&key))).then_some(())
-}
-
-/// Where each field and each step of a record begins and ends.
-struct Places {
-    fields: Vec<(usize, usize)>,
-    steps: Vec<(usize, usize)>,
-}
-
-fn record(bytes: &[u8]) -> Option<Places> {
-    let whole = items(bytes, 0)?;
-    let [scenario] = whole.as_slice() else { return None };
-    (scenario.kind == 16 && bytes.len() <= LONGEST).then_some(())?;
-    let fields = items(scenario.content, 6)?;
-    let [name, description, tags, image, setup, defaults, fail_on, list] = fields.as_slice() else {
-        return None;
-    };
-    for one in [name, description, image] {
-        text(one)?;
-    }
-    (tags.kind == 4 && defaults.kind == 17 && fail_on.kind == 4 && list.kind == 18).then_some(())?;
-    for tag in &items(tags.content, 0)? {
-        text(tag)?;
-    }
-    tree(setup, 31)?;
-    tree(fail_on, 31)?;
-    let times = items(defaults.content, 0)?;
-    let [timeout, wall_budget] = times.as_slice() else { return None };
-    text_or_null(timeout)?;
-    text_or_null(wall_budget)?;
-    let steps = items(list.content, list.start + 6)?;
-    for one in &steps {
-        (one.kind == 19).then_some(())?;
-        step(one.content)?;
-    }
-    let places = |items: &[Item]| items.iter().map(|item| (item.start, item.end)).collect();
-    Some(Places { fields: places(&fields), steps: places(&steps) })
-}
-
 /// What the lookups of 0, each number up to the count, and one more say.
-fn lookups(places: &[(usize, usize)]) -> String {
-    let found = places.iter().map(|(start, end)| format!(" {start}+{}", end - start));
+fn lookups(places: impl Iterator<Item = (usize, usize)>) -> String {
+    let found = places.map(|(start, end)| format!(" {start}+{}", end - start));
     format!(" !53{} !53", found.collect::<String>())
 }
 
 fn answer(bytes: &[u8]) -> String {
     match record(bytes) {
         None => "refused 40 0 0 !40 !40 !40".to_owned(),
-        Some(places) => {
-            let fields = lookups(&places.fields);
-            format!("good {}{fields}{}", places.steps.len(), lookups(&places.steps))
+        Some(found) => {
+            let fields = lookups(found.fields.iter().copied());
+            let steps = lookups(found.steps.iter().map(|step| (step.start, step.end)));
+            format!("good {}{fields}{steps}", found.steps.len())
         }
     }
 }
 
 // ---- damaged copies
-
-const NOT_UTF8: [&[u8]; 5] =
-    [b"\xff", b"\xc0\x80", b"\xed\xa0\x80", b"\xe2\x82", b"\xf4\x90\x80\x80"];
-
-#[derive(Clone)]
-enum Node {
-    Leaf(u16, Vec<u8>),
-    Inner(u16, Vec<Node>),
-}
-use Node::{Inner, Leaf};
-
-fn node(item: &Item) -> Node {
-    match item.kind {
-        4 | 5 | 16..=19 => {
-            Inner(item.kind, items(item.content, 0).expect("items").iter().map(node).collect())
-        }
-        kind => Leaf(kind, item.content.to_vec()),
-    }
-}
-
-fn write(node: &Node, out: &mut Vec<u8>) {
-    let at = out.len();
-    let kind = match node {
-        Leaf(kind, _) | Inner(kind, _) => *kind,
-    };
-    out.extend([0; 4]);
-    out.extend(kind.to_le_bytes());
-    match node {
-        Leaf(_, content) => out.extend(content),
-        Inner(_, items) => items.iter().for_each(|item| write(item, out)),
-    }
-    let length = (out.len() - at - 6) as u32;
-    out[at..at + 4].copy_from_slice(&length.to_le_bytes());
-}
-
-fn written(node: &Node) -> Vec<u8> {
-    let mut out = Vec::new();
-    write(node, &mut out);
-    out
-}
 
 fn count(node: &Node) -> usize {
     match node {
@@ -281,33 +104,6 @@ fn nested(kind: u16, depth: usize) -> Node {
         node = Inner(kind, if kind == 5 { vec![string("k"), inner] } else { vec![inner] });
     }
     node
-}
-
-fn string(text: &str) -> Node {
-    Leaf(3, text.into())
-}
-
-fn null() -> Node {
-    Leaf(0, Vec::new())
-}
-
-fn one_step(key: &str, value: Node, expect: Node) -> Node {
-    Inner(19, vec![string(""), string(""), string(key), value, null(), Leaf(1, vec![0]), expect])
-}
-
-fn scenario(setup: Node, fail_on: Node, steps: Vec<Node>) -> Node {
-    let tags = Inner(4, vec![string("a"), string("")]);
-    let defaults = Inner(17, vec![null(), string("5 s")]);
-    let steps = Inner(18, steps);
-    Inner(16, vec![string("noon"), string(""), tags, string(""), setup, defaults, fail_on, steps])
-}
-
-fn list() -> Node {
-    Inner(4, Vec::new())
-}
-
-fn map(keys: &[&str]) -> Node {
-    Inner(5, keys.iter().flat_map(|key| [string(key), null()]).collect())
 }
 
 fn with_setup(setup: Node) -> Node {

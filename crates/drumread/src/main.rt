@@ -112,22 +112,14 @@ fn print_answer(text: &[u8], work: &mut [u8], record: &mut [u8], lines: &mut [u3
             record_bytes,
             line_bytes: _,
             steps,
-        } => {
-            if record_bytes <= record.len() {
-                if steps <= lines.len() {
-                    print_read(&record[..record_bytes], tree_bytes, &lines[..steps]);
-                }
-            }
-        }
+        } => print_read(&record[..record_bytes], tree_bytes, &lines[..steps]),
         ScenarioAnswer::Refused(e) => print_refusal(e),
     }
 }
 
 fn read_input(text: &mut [u8], work: &mut [u8], record: &mut [u8], lines: &mut [u32]) {
     let n = io::read_full(STDIN_FILENO, text);
-    if n <= text.len() {
-        print_answer(&text[..n], work, record, lines);
-    }
+    print_answer(&text[..n], work, record, lines);
 }
 
 fn main() {

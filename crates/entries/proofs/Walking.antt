@@ -18,7 +18,7 @@ use Rattle.item.proofs.Headers.{spans}
 use Rattle.entries.specs.declared.Pair.{Pair}
 use Rattle.entries.specs.declared.Pair.the-variants as pairs
 use Rattle.entries.specs.declared.Span.the-variants.{At, Nowhere}
-use Rattle.entries.specs.Entries.{Stands, Lies, Holds, Places, PairPlaces, Paired, SoughtAt, Seeks, Finds, spanAt}
+use Rattle.entries.specs.Entries.{Stands, Lies, Holds, Places, PairPlaces, Paired, placeOf, SoughtAt, Seeks, Finds, spanAt}
 use Rattle.entries.proofs.Standing.{stands-left, stands-right, stands-at, stands-part, item-head, item-content, value-head, valued}
 
 -- ---- an entry
@@ -164,6 +164,8 @@ pub record Turn (s : List ℕ) (at to : ℕ) (es : Entries) (start stop kind nex
   pub key-is : take (stop - start) (drop start s) ≡ entry .k
   pub value : Stands s stop (encode (entry .v))
   pub behind : Lies s next to (entry .others)
+  pub value-place : stop ≡ at + 6 + length (entry .k)
+  pub next-place : next ≡ at + 6 + length (entry .k) + length (encode (entry .v))
 
 pub turn : {s : List ℕ} {at to start stop kind next : ℕ} {r : Pair} (es : Entries) → length s ≤ 2 ^ 20 → at < to → Paired s at r → r ≡ pairs.At start stop kind next → Lies s at to es → Turn s at to es start stop kind next
 turn {s} {at} {to} {start} {stop} {kind} {next} es w m p e h =
@@ -178,6 +180,8 @@ turn {s} {at} {to} {start} {stop} {kind} {next} es w m p e h =
       key-is = ap (λ (i : ℕ). take (stop - start) (drop i s)) a ∙ stands-part (f .key) (stop - start) (omega (arith, a, b));
       value = stands-at (sym b) (f .value);
       behind = subst (λ (i : ℕ). Lies s i to (f .others)) (sym n) (f .behind);
+      value-place = b;
+      next-place = n;
     }
 
 pub no-entry : {s : List ℕ} {at to : ℕ} {r : Pair} {X : Type 0} (es : Entries) → length s ≤ 2 ^ 20 → at < to → Paired s at r → r ≡ pairs.Nowhere → Lies s at to es → X
@@ -189,30 +193,48 @@ no-entry es w m p e h =
 -- ---- the search for a key
 
 -- what is left to search decides as all of it does
-pub record Sought (s key : List ℕ) (to at : ℕ) (es : Entries) : Type 0 where
+pub record Sought (s key : List ℕ) (from to at : ℕ) (es : Entries) : Type 0 where
   pub rest : Entries
   pub lies : Lies s at to rest
   pub same-value : get key es ≡ get key rest
+  pub same-place : placeOf key from es ≡ placeOf key at rest
 
-pub search-start : {s key : List ℕ} {to at : ℕ} (es : Entries) → Lies s at to es → Sought s key to at es
-search-start es h = record { rest = es; lies = h; same-value = refl }
+pub search-start : {s key : List ℕ} {from to : ℕ} (es : Entries) → Lies s from to es → Sought s key from to from es
+search-start es h = record { rest = es; lies = h; same-value = refl; same-place = refl }
 
-pub search-end : {s key : List ℕ} {to at : ℕ} {es : Entries} → Sought s key to at es → to ≤ at → get key es ≡ none
-unfolding get
-search-end {key = key} w h = w .same-value ∙ ap (get key) (no-more (w .rest) h (w .lies))
+module _ {s key : List ℕ} {from to at : ℕ} {es : Entries} (w : Sought s key from to at es) (h : to ≤ at) where
+  pub search-end : get key es ≡ none
+  unfolding get
+  search-end = w .same-value ∙ ap (get key) (no-more (w .rest) h (w .lies))
 
-module _ {s key : List ℕ} {to at start stop kind next : ℕ} {es : Entries} (w : Sought s key to at es) (t : Turn s at to (w .rest) start stop kind next) where
+  pub place-end : found.Nothing ≡ placeOf key from es
+  unfolding placeOf
+  place-end = sym (w .same-place ∙ ap (placeOf key at) (no-more (w .rest) h (w .lies)))
+
+module _ {s key : List ℕ} {from to at start stop kind next : ℕ} {es : Entries} (w : Sought s key from to at es) (t : Turn s at to (w .rest) start stop kind next) where
   here : {b : Bool} → same (take (stop - start) (drop start s)) key ≡ b → get key es ≡ (if b then some (t .entry .v) else get key (t .entry .others))
   unfolding get
   here {b} e = w .same-value ∙ ap (get key) (t .entry .is) ∙ ap (λ (l : Bool). if l then some (t .entry .v) else get key (t .entry .others)) (ap (λ (l : List ℕ). same l key) (sym (t .key-is)) ∙ e)
+
+  placed : {b : Bool} → same (take (stop - start) (drop start s)) key ≡ b → placeOf key from es ≡ (if b then found.At stop else placeOf key next (t .entry .others))
+  unfolding placeOf
+  placed {b} e =
+      w .same-place ∙ ap (placeOf key at) (t .entry .is)
+      ∙ ap (λ (i : ℕ). if same (t .entry .k) key then found.At i else placeOf key (i + length (encode (t .entry .v))) (t .entry .others)) (sym (t .value-place))
+      ∙ ap (λ (i : ℕ). if same (t .entry .k) key then found.At stop else placeOf key i (t .entry .others)) (omega (arith, t .value-place, t .next-place))
+      ∙ ap (λ (l : Bool). if l then found.At stop else placeOf key next (t .entry .others)) (ap (λ (l : List ℕ). same l key) (sym (t .key-is)) ∙ e)
 
   pub search-found : same (take (stop - start) (drop start s)) key ≡ true → SoughtAt s (get key es) stop
   unfolding if_then_else_
   search-found e = record { value = t .entry .v; is = here e; stands = t .value }
 
-  pub search-on : same (take (stop - start) (drop start s)) key ≡ false → Sought s key to next es
+  pub place-found : same (take (stop - start) (drop start s)) key ≡ true → found.At stop ≡ placeOf key from es
   unfolding if_then_else_
-  search-on e = record { rest = t .entry .others; lies = t .behind; same-value = here e }
+  place-found e = sym (placed e)
+
+  pub search-on : same (take (stop - start) (drop start s)) key ≡ false → Sought s key from to next es
+  unfolding if_then_else_
+  search-on e = record { rest = t .entry .others; lies = t .behind; same-value = here e; same-place = placed e }
 
 -- ---- what was found
 

@@ -1,11 +1,12 @@
 -- Section 5 of document 01, for contracts: encoded items side by side in some bytes, where they stand, and what was found among them. Uses
--- Tree, Encode and Places of `item`. Assumes nothing.
+-- Base of `refusal`; Tree, Encode and Places of `item`. Assumes nothing.
 use mathlib.Core.Path.{_≡_}
 use Prim.Native.Nat.{ℕ, zero, suc, _+_, _≤_, _^_}
 use mathlib.Core.List.{List, [], _∷_, _++_}
 use mathlib.Core.Option.{Option, none, some}
 use lib.ListN.{length, drop}
-use Rattle.item.specs.Tree.{Shape, Node, Yaml, null, bool, int, str, seq, dict, Entries, pair, Ranged}
+use Rattle.refusal.specs.Base.{if_then_else_, same}
+use Rattle.item.specs.Tree.{Shape, Node, Yaml, null, bool, int, str, seq, dict, Entries, done, pair, Ranged}
 use Rattle.item.specs.Encode.{le, twos, flag, encode, kindOf}
 use Rattle.item.specs.Places.{headerAt}
 use Rattle.item.specs.declared.Header.{Header}
@@ -62,6 +63,11 @@ Paired s at r =
     → r ≡ pairs.At (at + 6) (at + 6 + length k) (kindOf v) (at + 6 + length k + length (encode v))
 
 -- ---- a key's value
+
+-- of entries from a place on, where the value beside a key begins
+unfoldable pub placeOf : List ℕ → ℕ → Entries → Found
+placeOf key at done = found.Nothing
+placeOf key at (pair k v es) = if same k key then found.At (at + 6 + length k) else placeOf key (at + 6 + length k + length (encode v)) es
 
 -- it stands at a place
 pub record SoughtAt (s : List ℕ) (o : Option Yaml) (p : ℕ) : Type 0 where

@@ -6,7 +6,7 @@ ghost use lib.ListN.{length, take, drop};
 ghost use Rattle.item.specs.Tree.{Entries, hasKey, get};
 ghost use Rattle.item.specs.Encode.{encode};
 ghost use Rattle.item.specs.Places.{headerAt};
-ghost use Rattle.entries.specs.Entries.{Lies, Holds, PairPlaces, Paired, Seeks, Finds, FoundInside, spanAt, nthItem};
+ghost use Rattle.entries.specs.Entries.{Lies, Holds, PairPlaces, Paired, placeOf, Seeks, Finds, FoundInside, spanAt, nthItem};
 use item::Found;
 use item::Header;
 use item::header_at;
@@ -92,10 +92,11 @@ pub fn pair_at(s: &[u8], at: usize) -> Pair
 }
 
 // The search for a key among the entries from `from` to `to`: the place of its value.
-fn search(s: &[u8], from: usize, to: usize, key: &[u8]) -> Found
+pub fn search(s: &[u8], from: usize, to: usize, key: &[u8]) -> Found
     requires { ⌜ (to ≤ length (now s)) × (length (now s) ≤ 2 ^ 20) ⌝ }
     ensures { λ r. ⌜ FoundInside (now (s .entry)) r ⌝ }
     ensures value { λ r. ⌜ ((es : Entries) → Lies (now (s .entry)) from to es → Seeks (now (s .entry)) (get (now (key .entry)) es) r) ⌝ }
+    ensures place { λ r. ⌜ ((es : Entries) → Lies (now (s .entry)) from to es → r ≡ placeOf (now (key .entry)) from es) ⌝ }
 {
     let mut at = from;
     while at < to {

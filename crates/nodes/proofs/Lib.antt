@@ -1,3 +1,3 @@
 pub mod Storing
 mod Numbers
-mod Texts
+pub mod Texts

@@ -9,6 +9,7 @@ use lib.Dec.{ltb}
 use lib.ListN.{length, take, drop, getD, length-drop}
 use lib.Seq.{drop-cons, length-take-le}
 use lib.IntN.{ℤ, pos, negsuc, negℤ}
+use lib.Signed.{mag}
 use borrow.Author.Tests.{lt-ltb, le-ltb}
 use Rattle.refusal.specs.Base.{maybe, if_then_else_, bytes}
 use Rattle.item.specs.Tree.{Yaml, null, bool, int, str, seq, dict, Ranged}
@@ -70,6 +71,13 @@ flag-at {s} {p} b st =
     told true = refl
     told false = refl
 
+pub int-at : {s : List ℕ} {p : ℕ} (x : ℤ) → mag x < 2 ^ 63 → Stands s p (encode (int x)) → untwos (number (take 8 (drop (p + 6) s))) ≡ x
+unfolding encode
+int-at {s} {p} x g st =
+    let i : take (length (le 8 (twos x))) (drop (p + 6) s) ≡ le 8 (twos x) = stands-part (item-content 2 (le 8 (twos x)) st) (length (le 8 (twos x))) refl in
+    let j : take 8 (drop (p + 6) s) ≡ le 8 (twos x) = ap (λ (n : ℕ). take n (drop (p + 6) s)) (sym (le-length 8 (twos x))) ∙ i in
+    ap (λ (l : List ℕ). untwos (number l)) j ∙ ap untwos (number-le 8 (twos x) (twos-small x g)) ∙ twos-back x g
+
 module _ {s old new : List ℕ} {p at end : ℕ} where
   bool-here : (y : Yaml) → kindOf y ≡ 1 → Stands s p (encode y) → Stored old new at (item 3 (boolText (ltb 0 (getD s (p + 6) 0)))) end → RendersAs (keyText y) old new at (Text end)
   unfolding kindOf keyText encode
@@ -87,10 +95,7 @@ module _ {s old new : List ℕ} {p at end : ℕ} where
   unfolding kindOf keyText encode
   int-here z null k g st e w = absurd (omega arith)
   int-here z (bool b) k g st e w = absurd (omega arith)
-  int-here z (int x) k g st e w =
-      let i : take (length (le 8 (twos x))) (drop (p + 6) s) ≡ le 8 (twos x) = stands-part (item-content 2 (le 8 (twos x)) st) (length (le 8 (twos x))) refl in
-      let j : take 8 (drop (p + 6) s) ≡ le 8 (twos x) = ap (λ (n : ℕ). take n (drop (p + 6) s)) (sym (le-length 8 (twos x))) ∙ i in
-      subst (λ (x : ℤ). Stored old new at (item 3 (intText x)) end) (e ∙ ap (λ (l : List ℕ). untwos (number l)) j ∙ ap untwos (number-le 8 (twos x) (twos-small x g)) ∙ twos-back x g) w
+  int-here z (int x) k g st e w = subst (λ (x : ℤ). Stored old new at (item 3 (intText x)) end) (e ∙ int-at x g st) w
   int-here z (str t) k g st e w = absurd (omega arith)
   int-here z (seq ys) k g st e w = absurd (omega arith)
   int-here z (dict es) k g st e w = absurd (omega arith)

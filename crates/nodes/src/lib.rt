@@ -118,7 +118,7 @@ fn number_at(s: &[u8], at: usize) -> u64
         + 72057594037927936 * h
 }
 
-fn integer_at(s: &[u8], at: usize) -> Integer
+pub fn integer_at(s: &[u8], at: usize) -> Integer
     requires { ⌜ at + 8 ≤ length (now s) ⌝ }
     ensures { λ r. ⌜ signed (r .negative) (r .magnitude) ≡ untwos (number (take 8 (drop at (now (s .entry))))) ⌝ }
 {

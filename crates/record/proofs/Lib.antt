@@ -5,6 +5,7 @@ pub mod Exact
 pub mod Examples
 pub mod Headers
 pub mod Lookups
+pub mod StepPlaces
 pub mod Invariants
 pub mod Views
 pub mod Theorems

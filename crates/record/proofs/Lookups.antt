@@ -38,7 +38,7 @@ pub record OneItem (p : List ℕ) : Type 0 where
 an-item : (k : ℕ) (c : List ℕ) → k < 256 ^ 2 → OneItem (item k c)
 an-item k c h = record { kind = k; content = c; small = h; is = refl }
 
-tree-item : (y : Yaml) → OneItem (encode y)
+pub tree-item : (y : Yaml) → OneItem (encode y)
 tree-item y = record { kind = kindOf y; content = content y; small = kind-small y; is = value-item y }
 
 fields-items : (m : Meaning) → Each OneItem (fields m)
@@ -148,7 +148,7 @@ module _ (b : List ℕ) (m : Meaning) (w : IsRecord b m) where
 
 -- a refusal of the check is one of every lookup
 module _ (b : List ℕ) (n l s : ℕ) (e : refused n l s ≡ checkRecord b) where
-  closed : {A : Type 0} (f : Meaning → Answer A) → refused n l s ≡ (opened b >>= f)
+  pub closed : {A : Type 0} (f : Meaning → Answer A) → refused n l s ≡ (opened b >>= f)
   unfolding checkRecord opened given _>>=_
   closed {A} f = go (meaningIn b) e
     where

@@ -2,17 +2,20 @@
 -- Uses Base of `refusal`; Tree and Encode of `item`; Meaning of `meaning`; Jobs and Read of this crate. Assumes nothing.
 use mathlib.Core.Path.{_≡_}
 use Prim.Native.Nat.{ℕ, _+_, _-_, _≤_}
-use mathlib.Core.List.{List}
+use mathlib.Core.List.{List, map}
 use mathlib.Core.Bool.{Bool, true, false, _||_}
 use mathlib.Core.Option.{Option, none, some}
 use lib.Dec.{eqb}
 use lib.ListN.{length, take, drop}
 use Rattle.refusal.specs.Base.{if_then_else_, maybe, oneOf, Answer, good}
-use Rattle.item.specs.Tree.{Yaml}
+use Rattle.item.specs.Tree.{Yaml, Ranged}
 use Rattle.item.specs.Encode.{kindOf}
 use Rattle.value.specs.declared.End.{End}
 use Rattle.value.specs.declared.End.the-variants.{At, Nowhere}
-use Rattle.meaning.specs.Meaning.{builtInSteps}
+use Rattle.meaning.specs.Meaning.{Step, builtInSteps}
+use Rattle.meaning.specs.Record.{joined, stepItem}
+use Rattle.meaning.specs.Rules.{Each}
+use Rattle.entries.specs.Entries.{Stands}
 use Rattle.entries.specs.declared.Span.{Span}
 use Rattle.entries.specs.declared.Span.the-variants as spans
 use Rattle.record.specs.Jobs.{Found, nothing, part}
@@ -72,3 +75,11 @@ countOf Bad = none
 abbrev pub spanOf : Span → Answer Found
 spanOf (spans.At start end) = good (part start end)
 spanOf spans.Nowhere = good nothing
+
+-- ---- the steps of a record, for those who walk along them
+
+-- the items of steps that stand from a place to another; the integers in their values have 64 bits
+pub record StepsLie (s : List ℕ) (from to : ℕ) (steps : List Step) : Type 0 where
+  pub ranged : Each (λ x. Ranged (x .value)) steps
+  pub stands : Stands s from (joined (map stepItem steps))
+  pub ends : to ≡ from + length (joined (map stepItem steps))

@@ -6,6 +6,7 @@ mod print;
 mod records;
 mod scenarios;
 mod section;
+mod steps;
 mod stream;
 mod trees;
 mod values;
@@ -16,9 +17,12 @@ use crate::section::ITEMS;
 use crate::section::LEAST_WORK;
 use crate::section::LINES;
 use crate::section::LONG_RECORD;
+use crate::section::LOOKUPS;
 use crate::section::PARTS;
+use crate::section::RECORD_CHECKS;
 use crate::section::RECORDS;
 use crate::section::SAME;
+use crate::section::SCENARIO_CHECKS;
 use crate::section::SCENARIO_SIZES;
 use crate::section::SCENARIO_TREES;
 use crate::section::SCENARIOS;
@@ -27,10 +31,8 @@ use crate::section::TREES;
 use crate::section::VALUES;
 use crate::section::next_section;
 use crate::stream::END;
+use crate::stream::MANY;
 use crate::stream::next_text;
-
-// More than the texts of a section, and than the sections.
-const MANY: usize = 100000000;
 
 fn answer(section: Section, text: &[u8]) {
     let kind = section.kind;
@@ -42,6 +44,8 @@ fn answer(section: Section, text: &[u8]) {
         TREES => trees::print_tree(text),
         LEAST_WORK => trees::print_least(text),
         RECORDS => records::print_record(text),
+        RECORD_CHECKS => steps::print_record_check(text),
+        LOOKUPS => steps::print_lookups(text),
         SCENARIOS | SCENARIO_TREES | SCENARIO_SIZES => scenarios::print_scenario(section, text),
         _ => {}
     }
@@ -64,6 +68,7 @@ fn replay_section(section: Section, buffer: &mut [u8]) {
         ITEMS => items::print_items(),
         LONG_RECORD => records::print_long(buffer, section.first, section.second),
         PARTS => records::print_parts(),
+        SCENARIO_CHECKS => steps::print_scenarios(buffer),
         _ => replay_texts(section, buffer, MANY),
     }
 }

@@ -10,7 +10,7 @@ use record::RecordAnswer;
 use refusal::Refusal;
 
 // Where the found part begins, and how long it is.
-fn print_lookup(bytes: &[u8], found: Lookup) {
+pub fn print_lookup(bytes: &[u8], found: Lookup) {
     match found {
         Lookup::Found { start, end } => {
             print_spaced(start);

@@ -28,6 +28,12 @@ pub const RECORDS: usize = 10;
 pub const LONG_RECORD: usize = 11;
 // Parts that are in order and inside, and parts that are not. It has no texts and no END.
 pub const PARTS: usize = 12;
+// The check of a scenario's steps, and the times of each. The first text is the list of known names.
+pub const SCENARIO_CHECKS: usize = 13;
+// The check of a record's steps. A text has the record's length and a count of lines in front, then the lines, the record and the names.
+pub const RECORD_CHECKS: usize = 14;
+// The lookups of section 6. A text has the record's length in front, then the record and what is looked for, as an id and as a key.
+pub const LOOKUPS: usize = 15;
 
 pub struct Section {
     pub kind: usize,

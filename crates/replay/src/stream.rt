@@ -5,11 +5,26 @@ use libc::STDIN_FILENO;
 
 // Ends a section where a text could follow.
 pub const END: usize = 4294967295;
+// More than the texts of a section, and than the sections.
+pub const MANY: usize = 100000000;
 
 fn pair(a: u8, b: u8) -> usize
     ensures { λ r. ⌜ r < 65536 ⌝ }
 {
     wide(a) + 256 * wide(b)
+}
+
+// The number at a place of a text, or 0 where fewer bytes are left.
+pub fn number_at(bytes: &[u8], at: usize) -> usize
+    ensures { λ r. ⌜ r < 4294967296 ⌝ }
+{
+    if bytes.len() < 4 {
+        return 0;
+    }
+    if bytes.len() - 4 < at {
+        return 0;
+    }
+    pair(bytes[at], bytes[at + 1]) + 65536 * pair(bytes[at + 2], bytes[at + 3])
 }
 
 // END where the stream ends.
@@ -18,7 +33,7 @@ pub fn next_number() -> usize {
     if io::read_full(STDIN_FILENO, &mut bytes) < 4 {
         return END;
     }
-    pair(bytes[0], bytes[1]) + 65536 * pair(bytes[2], bytes[3])
+    number_at(&bytes, 0)
 }
 
 // The next text is put at the front of the buffer, and its length answered; more than the buffer's where the section or the stream

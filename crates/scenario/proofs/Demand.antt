@@ -7,7 +7,7 @@ use mathlib.Core.Option.{some}
 use lib.Dec.{leb}
 use lib.ListN.{length, getD}
 use borrow.Author.Tests.{leb-true}
-use Rattle.refusal.specs.Base.{Answer, good, refused, _>>=_, _>>_, ensure, given}
+use Rattle.refusal.specs.Base.{good, refused, _>>=_, _>>_, ensure, given}
 use Rattle.refusal.proofs.Tools.{ensured, good-inj, bound}
 use Rattle.item.specs.Encode.{Bytes}
 use Rattle.lines.specs.Lines.{Line, significantLines}
@@ -26,7 +26,6 @@ use Rattle.step_lines.specs.StepLines.{stepLines, tailLines}
 use Rattle.meaning.specs.Meanings.{meaningOf}
 use Rattle.scenario.specs.Scenario.{Reading, linesFor, readingOf, scenario}
 use Rattle.scenario.proofs.KeepsRules.{meaning-kept}
-use Rattle.scenario.proofs.AnyWork.{Agree, itself, binds, thens, treeOfs}
 
 -- ---- the record check, of any bytes
 
@@ -139,21 +138,3 @@ module _ (work room places : ℕ) (text : List ℕ) (r : Reading) (e : scenario 
   -- ruled out: always one programme's record, and a copier of the text
   pub same-records : (recordOf (r .meaning) ≡ recordOf (r′ .meaning) → r .meaning ≡ r′ .meaning) × (r .meaning ≡ r′ .meaning → recordOf (r .meaning) ≡ recordOf (r′ .meaning))
   same-records = (one-to-one (r .meaning) (r′ .meaning) (accepted-rules work room places text r e) (accepted-rules work′ room′ places′ text′ r′ e′), λ p. ap recordOf p)
-
--- ---- one text, accepted with one lending and with another
-
-units : (a b : Answer (Unit {0})) → Agree a b
-units a b = record { alike = λ x y p q. refl }
-
-readings : (work work′ : ℕ) (text : List ℕ) → Agree (readingOf work text) (readingOf work′ text)
-unfolding readingOf
-readings work work′ text = thens _ _ _ _ (itself (admitted text)) (binds _ _ _ _ (itself (significantLines text))
-    λ ls. binds _ _ _ _ (treeOfs (min work (2 ^ 20)) (min work′ (2 ^ 20)) ls) λ y. itself _)
-
--- what is lent decides whether a text is accepted, never what is read
-pub same-reading : (work room places work′ room′ places′ : ℕ) (text : List ℕ) (r r′ : Reading) → scenario work room places text ≡ good r → scenario work′ room′ places′ text ≡ good r′ → r ≡ r′
-unfolding scenario
-same-reading work room places work′ room′ places′ text r r′ e e′ = both .alike r r′ e e′
-  where
-    both : Agree (scenario work room places text) (scenario work′ room′ places′ text)
-    both = binds _ _ _ _ (readings work work′ text) λ r. thens _ _ _ _ (units _ _) (thens _ _ _ _ (units _ _) (itself (good r)))

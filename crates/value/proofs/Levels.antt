@@ -71,7 +71,7 @@ decode-low (suc l) bs x e =
 
 -- ---- the way back
 
-ranged : {s : Shape} (y : Node s) → sound y ≡ true → Ranged y
+pub ranged : {s : Shape} (y : Node s) → sound y ≡ true → Ranged y
 unfolding sound
 ranged null h = tt
 ranged (bool b) h = tt

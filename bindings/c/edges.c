@@ -1,0 +1,141 @@
+/* The promises of drum.h at their edges: buffers of exact size between bytes that must stay, answers that are too short, bytes that are no
+ * record. Built with sanitizers, so that a byte read or written outside is seen. */
+#include "drum.h"
+
+#include <stdio.h>
+#include <stdlib.h>
+#include <string.h>
+
+static int failed;
+
+static void expect(int holds, const char *what) {
+    if (holds) return;
+    printf("FAILED %s\n", what);
+    failed = 1;
+}
+
+static const char noon[] = "schema: passportsim/scenario@1\nname: noon\nsteps:\n  - strike: {strokes: 12}\n    id: hour\n  - repeat: {times: 3, steps: []}";
+
+static int zeros(const uint8_t *bytes, size_t n) {
+    for (size_t i = 0; i < n; i++)
+        if (bytes[i] != 0) return 0;
+    return 1;
+}
+
+/* Lends exactly so much, from the heap, so that the sanitizer sees every byte beyond. */
+static uint32_t read_with(size_t work_len, size_t record_len, size_t lines_len, uint64_t *answer, size_t answer_len) {
+    uint8_t *text = malloc(sizeof noon - 1), *work = malloc(work_len + 1), *record = malloc(record_len + 1);
+    uint32_t *lines = malloc((lines_len + 1) * sizeof *lines);
+    if (!text || !work || !record || !lines) exit(2);
+    memcpy(text, noon, sizeof noon - 1);
+    memset(work, 7, work_len + 1);
+    memset(record, 7, record_len + 1);
+    memset(lines, 7, (lines_len + 1) * sizeof *lines);
+    uint32_t result = drum_read_scenario(text, sizeof noon - 1, work, work_len, record, record_len, lines, lines_len, answer, answer_len);
+    expect(work[work_len] == 7 && record[record_len] == 7 && lines[lines_len] == 0x07070707, "nothing is written behind a buffer");
+    if (result == DRUM_REFUSED) {
+        expect(zeros(work, work_len) && zeros(record, record_len), "a refusal leaves zeros");
+        for (size_t i = 0; i < lines_len; i++) expect(lines[i] == 0, "a refusal leaves zeros in the lines");
+    }
+    free(text);
+    free(work);
+    free(record);
+    free(lines);
+    return result;
+}
+
+static void exact(void) {
+    uint64_t answer[DRUM_ANSWER + 1] = {7, 7, 7, 7, 7, 7};
+    expect(read_with(1000, 1000, 10, answer, DRUM_ANSWER + 1) == DRUM_ACCEPTED && answer[0] == DRUM_ACCEPTED, "accepted");
+    expect(answer[3] == 8 && answer[4] == 2 && answer[5] == 7, "four bytes for each line, two steps, and the sixth place kept");
+    size_t tree = answer[1], record = answer[2];
+    expect(read_with(tree, record, 2, answer, DRUM_ANSWER) == DRUM_ACCEPTED, "exactly enough");
+    expect(read_with(tree - 1, record, 2, answer, DRUM_ANSWER) == DRUM_REFUSED && answer[1] == 50, "50");
+    expect(read_with(tree, record, 1, answer, DRUM_ANSWER) == DRUM_REFUSED && answer[1] == 51, "51");
+    expect(read_with(tree, record - 1, 2, answer, DRUM_ANSWER) == DRUM_REFUSED && answer[1] == 52, "52");
+    expect(read_with(0, 0, 0, answer, DRUM_ANSWER) == DRUM_REFUSED && answer[1] == 50, "nothing lent");
+}
+
+/* As many numbers as there are places. */
+static void short_answers(void) {
+    for (size_t n = 0; n <= DRUM_ANSWER; n++) {
+        uint64_t answer[DRUM_ANSWER] = {7, 7, 7, 7, 7};
+        const uint64_t whole[DRUM_ANSWER] = {DRUM_REFUSED, 21, 0, 0, 0};
+        uint8_t work[16], record[16];
+        uint32_t lines[1];
+        expect(drum_read_scenario((const uint8_t *)"a", 1, work, sizeof work, record, sizeof record, lines, 1, answer, n) == DRUM_REFUSED,
+               "the result is told without places");
+        for (size_t i = 0; i < DRUM_ANSWER; i++) expect(answer[i] == (i < n ? whole[i] : 7), "a short answer");
+    }
+}
+
+static void lookups(void) {
+    static uint8_t work[1000], record[1000];
+    uint32_t lines[10];
+    uint64_t answer[DRUM_ANSWER];
+    static const uint8_t none[] = {0, 0, 0, 0, 4, 0}, strike[] = {12, 0, 0, 0, 4, 0, 6, 0, 0, 0, 3, 0, 's', 't', 'r', 'i', 'k', 'e'};
+    drum_read_scenario((const uint8_t *)noon, sizeof noon - 1, work, sizeof work, record, sizeof record, lines, 10, answer, DRUM_ANSWER);
+    size_t n = answer[2];
+    expect(drum_check_record(record, n, answer, DRUM_ANSWER) == DRUM_ACCEPTED && answer[1] == 2, "the check counts the steps");
+    expect(drum_check_record(record, n - 1, answer, DRUM_ANSWER) == DRUM_REFUSED && answer[1] == 40, "no record");
+    expect(drum_check_steps(record, n, lines, 2, strike, sizeof strike, answer, DRUM_ANSWER) == DRUM_ACCEPTED && answer[1] == 2, "commands known");
+    expect(drum_check_steps(record, n, lines, 2, none, sizeof none, answer, DRUM_ANSWER) == DRUM_REFUSED && answer[1] == 36 && answer[2] == 4
+               && answer[3] == 1, "36 at line 4, step 1");
+    expect(drum_check_steps(record, n, lines, 0, none, sizeof none, answer, DRUM_ANSWER) == DRUM_REFUSED && answer[2] == 0, "36 without lines");
+    expect(drum_check_steps(record, n, lines, 2, none, 5, answer, DRUM_ANSWER) == DRUM_REFUSED && answer[1] == 40, "no list of names");
+    expect(drum_field(record, n, 1, answer, DRUM_ANSWER) == DRUM_ACCEPTED && answer[1] == 6 && answer[2] == 16, "the name");
+    expect(drum_field(record, n, 9, answer, DRUM_ANSWER) == DRUM_REFUSED && answer[1] == 53, "place 9");
+    expect(drum_field(record, n, 0, answer, DRUM_ANSWER) == DRUM_REFUSED && answer[1] == 53, "place 0");
+    expect(drum_step(record, n, 2, answer, DRUM_ANSWER) == DRUM_ACCEPTED && answer[2] == n, "the last step ends the record");
+    expect(drum_step(record, n, 3, answer, DRUM_ANSWER) == DRUM_REFUSED && answer[1] == 53, "step 3");
+    expect(drum_step(record, n, SIZE_MAX, answer, DRUM_ANSWER) == DRUM_REFUSED && answer[1] == 53, "the largest number");
+    expect(drum_step_by_id(record, n, (const uint8_t *)"hour", 4, answer, DRUM_ANSWER) == DRUM_ACCEPTED, "a step by its id");
+    expect(drum_step_by_id(record, n, (const uint8_t *)"hour", 3, answer, DRUM_ANSWER) == DRUM_NOTHING && answer[1] == 0, "no step with this id");
+    expect(drum_step_by_id(record, n, (const uint8_t *)"", 0, answer, DRUM_ANSWER) == DRUM_NOTHING, "the empty id");
+    expect(drum_value_by_key(record, n, 1, (const uint8_t *)"strokes", 7, answer, DRUM_ANSWER) == DRUM_ACCEPTED && answer[2] - answer[1] == 14
+               && record[answer[1] + 6] == 12, "a value by its key");
+    expect(drum_value_by_key(record, n, 1, (const uint8_t *)"bell", 4, answer, DRUM_ANSWER) == DRUM_NOTHING, "no value");
+    expect(drum_times(record, n, 2, answer, DRUM_ANSWER) == DRUM_ACCEPTED && answer[1] == 3, "times");
+    expect(drum_times(record, n, 1, answer, DRUM_ANSWER) == DRUM_REFUSED && answer[1] == 38 && answer[3] == 1, "38 at step 1");
+}
+
+/* Every byte of a record changed in turn: each answer is a record's or 40. */
+static void damaged(void) {
+    static uint8_t work[1000], record[1000];
+    uint32_t lines[10];
+    uint64_t answer[DRUM_ANSWER];
+    drum_read_scenario((const uint8_t *)noon, sizeof noon - 1, work, sizeof work, record, sizeof record, lines, 10, answer, DRUM_ANSWER);
+    size_t n = answer[2];
+    for (size_t i = 0; i < n; i++) {
+        record[i] ^= 1;
+        uint32_t result = drum_check_record(record, n, answer, DRUM_ANSWER);
+        expect(result == DRUM_ACCEPTED || answer[1] == 40, "a damaged record");
+        expect(drum_step(record, n, 1, answer, DRUM_ANSWER) == result, "a lookup checks");
+        record[i] ^= 1;
+    }
+}
+
+/* As many steps as a text can have. */
+static void most_steps(void) {
+    static uint8_t text[DRUM_TEXT_MAX], work[DRUM_WORK_MAX], record[DRUM_RECORD_MAX];
+    static uint32_t lines[DRUM_LINES_MAX];
+    uint64_t answer[DRUM_ANSWER];
+    static const char begin[] = "{schema: passportsim/scenario@1,name: n,steps: [";
+    size_t n = sizeof begin - 1;
+    uint64_t steps = 0;
+    memcpy(text, begin, n);
+    for (; n + 6 <= sizeof text; n += 4, steps++) memcpy(text + n, "{a:}", 4);
+    memcpy(text + n, "]}", 2);
+    expect(drum_read_scenario(text, n + 2, work, sizeof work, record, sizeof record, lines, DRUM_LINES_MAX, answer, DRUM_ANSWER)
+               == DRUM_ACCEPTED && answer[4] == steps, "as many steps as a text can have");
+}
+
+int main(void) {
+    exact();
+    short_answers();
+    lookups();
+    damaged();
+    most_steps();
+    if (!failed) printf("ok edges\n");
+    return failed;
+}

@@ -1,0 +1,8 @@
+mod Names
+mod Inner
+mod Places
+mod Steps
+mod Answers
+pub mod Theorems
+pub mod Examples
+pub mod Open

@@ -1,0 +1,5 @@
+pub mod Calls
+pub mod Counted
+pub mod Filling
+pub mod Named
+pub mod Records

@@ -1,0 +1,388 @@
+// What a caller can count on (document 01, demands 1 to 3). Each function calls the public jobs as a board does, on whatever it is lent,
+// and its contract is a demand: it is proved from the contracts of the jobs alone.
+ghost use mathlib.Core.Path.{_≡_};
+ghost use mathlib.Core.Bool.{true};
+ghost use Rattle.meaning.specs.Record.{fields};
+ghost use Rattle.record.specs.Jobs.{lookupOf};
+ghost use Rattle.refusal.specs.Told.{toldOf};
+ghost use Rattle.scenario.specs.Scenario.{scenarioOf};
+ghost use Rattle.scenario.specs.Told.{ScenarioEnds};
+ghost use Rattle.demands.specs.Records.{GoodRecord, RecordEnds};
+ghost use Rattle.demands.specs.Contract.{StepsTo};
+ghost use Rattle.demands.specs.Demands.{TreeEnds, TellsRefusal, Compares, lacks, isGood, outOfRange};
+ghost use Rattle.demands.specs.Demands.{FieldShown, StepShown, stepItems, TextItem};
+
+pub mod names;
+
+use item::same_bytes;
+use record::Lookup;
+use record::RecordAnswer;
+use record::check_record;
+use record::field;
+use record::part;
+use record::step;
+use refusal::Refusal;
+use refusal::Told;
+use scenario::ScenarioAnswer;
+use scenario::read_scenario;
+use tree::TreeAnswer;
+use tree::read_tree;
+
+// What comparing the records of two texts answers; neither where one of them was refused.
+pub enum Compared {
+    Same,
+    Different,
+    Neither,
+}
+
+// Every reading of a tree ends in one of two ways.
+pub fn tree_ends(text: &[u8], work: &mut [u8]) -> TreeAnswer
+    ensures { λ r. ⌜ TreeEnds (now (text .entry)) (now (work .entry)) (now (work .exit)) r ⌝ }
+{
+    read_tree(text, work)
+}
+
+// So does every reading of a scenario.
+pub fn scenario_ends(
+    text: &[u8],
+    work: &mut [u8],
+    record: &mut [u8],
+    lines: &mut [u32],
+) -> ScenarioAnswer
+    ensures { λ r. ⌜ ScenarioEnds (now (text .entry)) (now (work .entry)) (now (work .exit)) (now («record» .entry))
+        (now («record» .exit)) (now (lines .entry)) (now (lines .exit)) r ⌝ }
+{
+    read_scenario(text, work, record, lines)
+}
+
+// And every check of a record.
+pub fn record_ends(record: &[u8]) -> RecordAnswer
+    ensures { λ r. ⌜ RecordEnds (now («record» .entry)) r ⌝ }
+{
+    check_record(record)
+}
+
+// What a refusal tells; nothing of a text that is read.
+pub fn told(text: &[u8], work: &mut [u8], record: &mut [u8], lines: &mut [u32]) -> Told
+    ensures { λ r. ⌜ TellsRefusal (scenarioOf (now (work .entry)) (now («record» .entry)) (now (lines .entry)) (now (text .entry)))
+        (now (work .entry)) (now (work .exit)) (now («record» .entry)) (now («record» .exit)) (now (lines .entry)) (now (lines .exit))
+        r ⌝ }
+{
+    match read_scenario(text, work, record, lines) {
+        ScenarioAnswer::Refused(e) => e.told(),
+        ScenarioAnswer::Read {
+            tree_bytes: _,
+            record_bytes: _,
+            line_bytes: _,
+            steps: _,
+        } => Told {
+            number: 0,
+            line: 0,
+            step: 0,
+        },
+    }
+}
+
+// Whether a record is good and has so many steps.
+fn is_good(record: &[u8], steps: usize) -> bool
+    ensures { λ r. ⌜ r ≡ isGood (now («record» .entry)) steps ⌝ }
+{
+    match check_record(record) {
+        RecordAnswer::Good { steps: n } => n == steps,
+        RecordAnswer::Refused(_) => false,
+    }
+}
+
+// Whether the record of a text that is read is good, with as many steps as were told.
+pub fn reads_good_records(
+    text: &[u8],
+    work: &mut [u8],
+    record: &mut [u8],
+    lines: &mut [u32],
+) -> bool
+    ensures { λ r. ⌜ r ≡ true ⌝ }
+{
+    match read_scenario(text, work, record, lines) {
+        ScenarioAnswer::Refused(_) => true,
+        ScenarioAnswer::Read {
+            tree_bytes: _,
+            record_bytes,
+            line_bytes: _,
+            steps,
+        } => is_good(&record[..record_bytes], steps),
+    }
+}
+
+// Two texts are read into buffers of their own, and the first bytes compared.
+pub fn compare_texts(
+    text: &[u8],
+    work: &mut [u8],
+    record: &mut [u8],
+    lines: &mut [u32],
+    other: &[u8],
+    other_work: &mut [u8],
+    other_record: &mut [u8],
+    other_lines: &mut [u32],
+) -> Compared
+    ensures { λ r. ⌜ Compares (scenarioOf (now (work .entry)) (now («record» .entry)) (now (lines .entry)) (now (text .entry)))
+        (scenarioOf (now («other_work» .entry)) (now («other_record» .entry)) (now («other_lines» .entry)) (now (other .entry)))
+        (now (text .entry)) (now (other .entry)) r ⌝ }
+{
+    match read_scenario(text, work, record, lines) {
+        ScenarioAnswer::Refused(_) => Compared::Neither,
+        ScenarioAnswer::Read {
+            tree_bytes: _,
+            record_bytes: n,
+            line_bytes: _,
+            steps: _,
+        } => match read_scenario(other, other_work, other_record, other_lines) {
+            ScenarioAnswer::Refused(_) => Compared::Neither,
+            ScenarioAnswer::Read {
+                tree_bytes: _,
+                record_bytes: m,
+                line_bytes: _,
+                steps: _,
+            } => {
+                if same_bytes(&record[..n], &other_record[..m]) {
+                    return Compared::Same;
+                }
+                Compared::Different
+            }
+        },
+    }
+}
+
+// Whether a refusal says that too little was lent.
+fn is_lack(e: Refusal) -> bool
+    ensures { λ r. ⌜ r ≡ lacks (toldOf e .number) ⌝ }
+{
+    let told = e.told();
+    if told.number < 50 {
+        return false;
+    }
+    told.number <= 52
+}
+
+// Whether one text that is read with one lending is read alike with any other, or too little is lent.
+pub fn reads_alike(
+    text: &[u8],
+    work: &mut [u8],
+    record: &mut [u8],
+    lines: &mut [u32],
+    other_work: &mut [u8],
+    other_record: &mut [u8],
+    other_lines: &mut [u32],
+) -> bool
+    ensures { λ r. ⌜ r ≡ true ⌝ }
+{
+    match read_scenario(text, work, record, lines) {
+        ScenarioAnswer::Refused(_) => true,
+        ScenarioAnswer::Read {
+            tree_bytes: _,
+            record_bytes: n,
+            line_bytes: _,
+            steps: _,
+        } => match read_scenario(text, other_work, other_record, other_lines) {
+            ScenarioAnswer::Refused(e) => is_lack(e),
+            ScenarioAnswer::Read {
+                tree_bytes: _,
+                record_bytes: m,
+                line_bytes: _,
+                steps: _,
+            } => same_bytes(&record[..n], &other_record[..m]),
+        },
+    }
+}
+
+// The item that a place finds in any bytes; nothing where there is none.
+pub fn field_item(record: &[u8], place: usize) -> &[u8]
+    ensures { λ r. ⌜ FieldShown (now («record» .entry)) place (now r) ⌝ }
+{
+    match field(record, place) {
+        Lookup::Found { start, end } => part(record, start, end),
+        Lookup::Nothing => part(record, 0, 0),
+        Lookup::Refused(_) => part(record, 0, 0),
+    }
+}
+
+// The item that a step's number finds.
+pub fn step_item(record: &[u8], number: usize) -> &[u8]
+    ensures { λ r. ⌜ StepShown (now («record» .entry)) number (now r) ⌝ }
+{
+    match step(record, number) {
+        Lookup::Found { start, end } => part(record, start, end),
+        Lookup::Nothing => part(record, 0, 0),
+        Lookup::Refused(_) => part(record, 0, 0),
+    }
+}
+
+// The item that a place finds in the record of a text.
+pub fn text_field<'a>(
+    text: &[u8],
+    work: &mut [u8],
+    record: &'a mut [u8],
+    lines: &mut [u32],
+    place: usize,
+) -> &'a [u8]
+    ensures { λ r. ⌜ TextItem fields (scenarioOf (now (work .entry)) (now («record» .entry)) (now (lines .entry)) (now (text .entry)))
+        (now (text .entry)) place (now r) ⌝ }
+{
+    match read_scenario(text, work, record, lines) {
+        ScenarioAnswer::Refused(_) => {
+            let whole = &record[..];
+            part(whole, 0, 0)
+        }
+        ScenarioAnswer::Read {
+            tree_bytes: _,
+            record_bytes,
+            line_bytes: _,
+            steps: _,
+        } => {
+            let whole = &record[..];
+            field_item(&whole[..record_bytes], place)
+        }
+    }
+}
+
+// The item that a step's number finds there.
+pub fn text_step<'a>(
+    text: &[u8],
+    work: &mut [u8],
+    record: &'a mut [u8],
+    lines: &mut [u32],
+    number: usize,
+) -> &'a [u8]
+    ensures { λ r. ⌜ TextItem stepItems (scenarioOf (now (work .entry)) (now («record» .entry)) (now (lines .entry)) (now (text .entry)))
+        (now (text .entry)) number (now r) ⌝ }
+{
+    match read_scenario(text, work, record, lines) {
+        ScenarioAnswer::Refused(_) => {
+            let whole = &record[..];
+            part(whole, 0, 0)
+        }
+        ScenarioAnswer::Read {
+            tree_bytes: _,
+            record_bytes,
+            line_bytes: _,
+            steps: _,
+        } => {
+            let whole = &record[..];
+            step_item(&whole[..record_bytes], number)
+        }
+    }
+}
+
+// Whether a lookup is refused with 53.
+fn is_out_of_range(found: Lookup) -> bool
+    ensures { λ r. ⌜ r ≡ outOfRange (lookupOf found) ⌝ }
+{
+    match found {
+        Lookup::Refused(e) => {
+            let told = e.told();
+            told.number == 53
+        }
+        Lookup::Nothing => false,
+        Lookup::Found { start: _, end: _ } => false,
+    }
+}
+
+// Whether every place but 1 to 8 is refused so in a good record.
+pub fn refuses_other_places(record: &[u8], place: usize) -> bool
+    ensures { λ r. ⌜ r ≡ true ⌝ }
+{
+    match check_record(record) {
+        RecordAnswer::Refused(_) => true,
+        RecordAnswer::Good { steps: _ } => {
+            if place == 0 {
+                return is_out_of_range(field(record, place));
+            }
+            if place > 8 {
+                return is_out_of_range(field(record, place));
+            }
+            true
+        }
+    }
+}
+
+// Whether every number but those up to the count is.
+pub fn refuses_other_numbers(record: &[u8], number: usize) -> bool
+    ensures { λ r. ⌜ r ≡ true ⌝ }
+{
+    match check_record(record) {
+        RecordAnswer::Refused(_) => true,
+        RecordAnswer::Good { steps } => {
+            if number == 0 {
+                return is_out_of_range(step(record, number));
+            }
+            if number > steps {
+                return is_out_of_range(step(record, number));
+            }
+            true
+        }
+    }
+}
+
+// Whether the fields found by place stand one behind another, from behind the header to the end.
+fn fields_fill(record: &[u8], steps: usize) -> bool
+    requires { ⌜ GoodRecord (now «record») steps ⌝ }
+    ensures { λ r. ⌜ r ≡ true ⌝ }
+{
+    let mut at = 6;
+    let mut done = 0;
+    while done < 8 {
+        match field(record, done + 1) {
+            Lookup::Found { start, end } => {
+                if start != at {
+                    return false;
+                }
+                at = end;
+            }
+            Lookup::Nothing => return false,
+            Lookup::Refused(_) => return false,
+        }
+        done += 1;
+    }
+    at == record.len()
+}
+
+// The same of the steps found by number, from where the first begins.
+fn steps_fill(record: &[u8], steps: usize, first: usize) -> bool
+    requires { ⌜ GoodRecord (now «record») steps × StepsTo (now «record») 0 first ⌝ }
+    ensures { λ r. ⌜ r ≡ true ⌝ }
+{
+    let mut at = first;
+    let mut done = 0;
+    while done < steps {
+        match step(record, done + 1) {
+            Lookup::Found { start, end } => {
+                if start != at {
+                    return false;
+                }
+                at = end;
+            }
+            Lookup::Nothing => return false,
+            Lookup::Refused(_) => return false,
+        }
+        done += 1;
+    }
+    at == record.len()
+}
+
+// Whether a good record is nothing but its fields, and the last of them nothing but its steps.
+pub fn lookups_fill(record: &[u8]) -> bool
+    ensures { λ r. ⌜ r ≡ true ⌝ }
+{
+    match check_record(record) {
+        RecordAnswer::Refused(_) => true,
+        RecordAnswer::Good { steps } => {
+            if !fields_fill(record, steps) {
+                return false;
+            }
+            match field(record, 8) {
+                Lookup::Found { start, end: _ } => steps_fill(record, steps, start + 6),
+                Lookup::Nothing => false,
+                Lookup::Refused(_) => false,
+            }
+        }
+    }
+}

@@ -1,0 +1,5 @@
+pub mod Places
+pub mod Ids
+pub mod Values
+pub mod Numbers
+pub mod Theorems

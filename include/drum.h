@@ -1,0 +1,102 @@
+/* The drum reader: programme texts to records, and what can be asked of a record.
+ *
+ *     rt staticlib drum                                     writes target/staticlib/libdrum.a (x86-64 Linux)
+ *     cc -Iinclude player.c target/staticlib/libdrum.a
+ *
+ * Every function behind this header is proved: it answers what document 01 says, stays within the buffers that it is lent, and ends, for
+ * any bytes whatever. docs/RECORD.md has the layout of a record, docs/REFUSALS.md the refusals.
+ *
+ * Buffers. Each comes as a pointer and the number of its elements. Inputs (const) are read and never written. Outputs are written from
+ * the front; what stands behind what was written is kept. A refused text leaves zeros in work, record and lines, to their last element.
+ * No pointer may be NULL, even where its length is 0. Outputs may not overlap each other or an input. Nothing is kept of any of them when
+ * a call returns.
+ *
+ * Threads. There is no state: calls may run on several threads at the same time, each with outputs of its own. No memory is allocated, no
+ * lock is taken, errno is not touched, and no other function is called but memset.
+ *
+ * Stack. See DRUM_STACK.
+ *
+ * Time. Reading takes time in proportion to the text, but for mappings: a mapping of many keys costs the square of their number, and the
+ * check of a record likewise. Every lookup checks the record first. */
+#ifndef DRUM_H
+#define DRUM_H
+
+#include <stddef.h>
+#include <stdint.h>
+
+#ifdef __cplusplus
+extern "C" {
+#endif
+
+/* Every answer is DRUM_ANSWER numbers, the first of which is the result too:
+ *
+ *     answer[0]        answer[1]  answer[2]  answer[3]  answer[4]
+ *     DRUM_ACCEPTED    the numbers that stand with each function, then 0
+ *     DRUM_REFUSED     number     line       step       0
+ *     DRUM_NOTHING     0          0          0          0
+ *
+ * Lines and steps count from 1; either is 0 where the refusal names none. An array of fewer than DRUM_ANSWER elements gets as many of
+ * the numbers as it has, from the front, and one of more keeps what it has behind them; so who needs the result alone lends an array
+ * with a length of 0. */
+#define DRUM_ANSWER 5
+#define DRUM_ACCEPTED 0
+#define DRUM_REFUSED 1
+#define DRUM_NOTHING 2
+
+/* A text may have so many bytes; a longer one is refused (1). */
+#define DRUM_TEXT_MAX 65535
+
+/* Sizes that are enough for any text: of work and record more is never used, and no text has more steps. A text that is refused with 50,
+ * 51 or 52 when lent these is refused with any more, too. */
+#define DRUM_WORK_MAX 1048576
+#define DRUM_RECORD_MAX 1048576
+#define DRUM_LINES_MAX 16384
+
+/* Bytes of stack that are enough for a call. bindings/c/stack.c measures them on texts and records as deep as may be: 50,520 bytes at most for
+ * the two readings (of which a table of lines is 16,384), 3,464 for the rest. */
+#define DRUM_STACK 65536
+
+/* Reads the tree of a text into work. Accepted: the bytes of the tree. */
+uint32_t drum_read_tree(const uint8_t *text, size_t text_len, uint8_t *work, size_t work_len, uint64_t *answer, size_t answer_len);
+
+/* Reads a programme: its tree into work, its record into record, and the line of each step into lines (0 for a step that has none of
+ * its own). Accepted: the bytes of the tree, the bytes of the record, the bytes of the lines (four for each) and the number of steps. */
+uint32_t drum_read_scenario(const uint8_t *text, size_t text_len, uint8_t *work, size_t work_len, uint8_t *record, size_t record_len,
+                            uint32_t *lines, size_t lines_len, uint64_t *answer, size_t answer_len);
+
+/* Whether bytes are a record. Accepted: the number of steps. Refused with 40. */
+uint32_t drum_check_record(const uint8_t *record, size_t record_len, uint64_t *answer, size_t answer_len);
+
+/* Whether the drum has the commands of a record's steps, and whether each `repeat` holds steps. The commands that are built in are known;
+ * names is the list of the others: an item of kind 4 that holds items of kind 3 (docs/RECORD.md), with nothing behind it. lines are those
+ * that drum_read_scenario gave, for refusals to name; a step beyond them has line 0. Accepted: the number of steps. Refused with 36, 37 and,
+ * for what stands inside a `repeat`, 31 to 35; with 40 for what is no record or no such list. */
+uint32_t drum_check_steps(const uint8_t *record, size_t record_len, const uint32_t *lines, size_t lines_len, const uint8_t *names,
+                          size_t names_len, uint64_t *answer, size_t answer_len);
+
+/* The lookups. Accepted: where the found item begins and where it ends in the record, its header of six bytes included. Refused with 40
+ * for what is no record; with 53 for a place that is not 1 to 8, or a number that is 0 or above the number of steps. */
+
+/* The field at a place: 1 name, 2 description, 3 tags, 4 image, 5 setup, 6 defaults, 7 fail_on, 8 steps. */
+uint32_t drum_field(const uint8_t *record, size_t record_len, size_t place, uint64_t *answer, size_t answer_len);
+
+/* The step with this number, from 1 on. */
+uint32_t drum_step(const uint8_t *record, size_t record_len, size_t number, uint64_t *answer, size_t answer_len);
+
+/* A step with this id, or nothing. Of several with one id any may be found; an empty id finds nothing. */
+uint32_t drum_step_by_id(const uint8_t *record, size_t record_len, const uint8_t *id, size_t id_len, uint64_t *answer, size_t answer_len);
+
+/* The value beside a key in the mapping that stands beside the command of the step with this number, or nothing: as `strokes` in
+ * `strike: {bell: great, strokes: 12}`. */
+uint32_t drum_value_by_key(const uint8_t *record, size_t record_len, size_t number, const uint8_t *key, size_t key_len,
+                           uint64_t *answer, size_t answer_len);
+
+/* How often the step with this number is repeated: the value beside its key `times`. Accepted: that number, from 1 to 4,294,967,295. Refused
+ * with 38 or 39 for another value or none, and like the lookups. */
+uint32_t drum_times(const uint8_t *record, size_t record_len, size_t number, uint64_t *answer, size_t answer_len);
+
+#ifdef __cplusplus
+}
+#endif
+
+#endif
