@@ -16,8 +16,8 @@
  *
  * Stack. See DRUM_STACK.
  *
- * Time. Reading takes time in proportion to the text, but for mappings: a mapping of many keys costs the square of their number, and the
- * check of a record likewise. Every lookup checks the record first. */
+ * Time. Reading takes time in proportion to the text, but for mappings: a mapping of many keys costs the square of their number. The check
+ * of a record takes time in proportion to its bytes, unless keys were made to look alike. Every lookup checks the record first. */
 #ifndef DRUM_H
 #define DRUM_H
 
@@ -52,8 +52,9 @@ extern "C" {
 #define DRUM_RECORD_MAX 1048576
 #define DRUM_LINES_MAX 16384
 
-/* Bytes of stack that are enough for a call. bindings/c/stack.c measures them on texts and records as deep as may be: 50,520 bytes at most for
- * the two readings (of which a table of lines is 16,384), 3,464 for the rest. */
+/* Bytes of stack that are enough for a call. bindings/c/stack.c measures them on texts and records as deep as may be: some 50,000 bytes at most
+ * for the two readings (of which a table of lines is 16,384), some 3,400 for the rest, and 16,384 more where a mapping of a record has many
+ * keys. */
 #define DRUM_STACK 65536
 
 /* Reads the tree of a text into work. Accepted: the bytes of the tree. */

@@ -17,7 +17,8 @@ use Rattle.item.proofs.Size.{head-length, item-length}
 use Rattle.item.proofs.Runs.{sets-append}
 use Rattle.lines.specs.Lines.{Line}
 use Rattle.flow.specs.Flow.{fresh}
-use Rattle.flow.proofs.Invariants.{headed, stored-front, snoc-bytes, add-bytes}
+use Rattle.entries.proofs.Twice.{add-bytes}
+use Rattle.flow.proofs.Invariants.{headed, stored-front, snoc-bytes}
 use Rattle.literal.specs.Literal.{Read}
 use Rattle.literal.specs.Contract.{WroteBlock}
 use Rattle.block.specs.Block.{Inside, keyAt, entryAt, mapTurn, mapLines, entriesOf, blockMap, inlineMap, itemBehind, seqTurn, seqLines, itemsOf, blockSeq, within}

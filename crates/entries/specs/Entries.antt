@@ -5,8 +5,9 @@ use Prim.Native.Nat.{ℕ, zero, suc, _+_, _≤_, _^_}
 use mathlib.Core.List.{List, [], _∷_, _++_}
 use mathlib.Core.Option.{Option, none, some}
 use lib.ListN.{length, drop}
+use mathlib.Core.Bool.{Bool, false, _||_}
 use Rattle.refusal.specs.Base.{if_then_else_, same}
-use Rattle.item.specs.Tree.{Shape, Node, Yaml, null, bool, int, str, seq, dict, Entries, done, pair, Ranged}
+use Rattle.item.specs.Tree.{Shape, Node, Yaml, null, bool, int, str, seq, dict, Entries, done, pair, hasKey, Ranged}
 use Rattle.item.specs.Encode.{le, twos, flag, encode, kindOf}
 use Rattle.item.specs.Places.{headerAt}
 use Rattle.item.specs.declared.Header.{Header}
@@ -94,6 +95,11 @@ Finds s o found.Nothing = o ≡ none
 abbrev pub FoundInside : List ℕ → Found → Type 0
 FoundInside s (found.At p) = p ≤ length s
 FoundInside s found.Nothing = Unit {0}
+
+-- a key that stands twice
+unfoldable pub keyTwice : Entries → Bool
+keyTwice done = false
+keyTwice (pair k v es) = hasKey k es || keyTwice es
 
 -- ---- the n-th item
 

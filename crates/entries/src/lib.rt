@@ -7,6 +7,10 @@ ghost use Rattle.item.specs.Tree.{Entries, hasKey, get};
 ghost use Rattle.item.specs.Encode.{encode};
 ghost use Rattle.item.specs.Places.{headerAt};
 ghost use Rattle.entries.specs.Entries.{Lies, Holds, PairPlaces, Paired, placeOf, Seeks, Finds, FoundInside, spanAt, nthItem};
+
+mod filter;
+
+pub use filter::repeats;
 use item::Found;
 use item::Header;
 use item::header_at;

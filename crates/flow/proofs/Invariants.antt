@@ -16,6 +16,7 @@ use Rattle.item.specs.Tree.{Yaml, seq, dict, Items, end, _▸_, _◂_, noItem, 
 use Rattle.item.specs.Encode.{head, item, encode}
 use Rattle.item.proofs.Size.{encode-long, head-length, item-length}
 use Rattle.item.proofs.Runs.{sets-append, sets-before}
+use Rattle.entries.proofs.Twice.{add-bytes}
 use Rattle.scalar.specs.declared.Role.{Role}
 use Rattle.scalar.specs.declared.Role.the-variants.{AsValue, AsKey}
 use Rattle.scalar.specs.Read.{Got, Reader, stop}
@@ -36,14 +37,6 @@ pub snoc-bytes : (ys : Items) (y : Yaml) → encode (ys ◂ y) ≡ encode ys ++ 
 unfolding encode _◂_
 snoc-bytes end y = append-nil (encode y)
 snoc-bytes (x ▸ ys) y = ap (λ (l : List ℕ). encode x ++ l) (snoc-bytes ys y) ∙ sym (append-assoc (encode x) (encode ys) (encode y))
-
-pub add-bytes : (es : Entries) (k : List ℕ) (v : Yaml) → encode (add es k v) ≡ encode es ++ (item 3 k ++ encode v)
-unfolding encode add
-add-bytes done k v = ap (λ (l : List ℕ). item 3 k ++ l) (append-nil (encode v))
-add-bytes (pair j u es) k v =
-    ap (λ (l : List ℕ). item 3 j ++ (encode u ++ l)) (add-bytes es k v)
-    ∙ ap (λ (l : List ℕ). item 3 j ++ l) (sym (append-assoc (encode u) (encode es) (item 3 k ++ encode v)))
-    ∙ sym (append-assoc (item 3 j) (encode u ++ encode es) (item 3 k ++ encode v))
 
 -- whether there is an item is whether there are bytes
 some-items : (ys : Items) (at p : ℕ) → p ≡ at + length (encode ys) → not (noItem ys) ≡ ltb at p

@@ -6,21 +6,59 @@ use native.Mathlib.Omega.{arith}
 use mathlib.Core.List.{List, [], _∷_, _++_}
 use mathlib.Core.Bool.{Bool, true, false, _&&_, _||_, false≢true, and-false, or-assoc, or-false}
 use mathlib.Core.Option.{some, none}
-use lib.Dec.{eqb, leb}
+use lib.Dec.{eqb, leb, ltb}
 use lib.ListN.{length, take, drop, getD, drop-of-length-le}
 use lib.Seq.{drop-cons, take-add}
-use borrow.Author.Tests.{eq-eqb, ne-eqb, eqb-true, eqb-false, leb-true, leb-false}
+use borrow.Author.Tests.{eq-eqb, ne-eqb, eqb-true, eqb-false, leb-true, leb-false, ltb-true, ltb-false}
 use Rattle.refusal.specs.Base.{if_then_else_, maybe, ch, bytes, same, endsWith}
 use Rattle.item.proofs.Same.{same-ne}
 use Rattle.utf8.specs.Utf8.{within}
 use Rattle.utf8.specs.Part.{part}
 use Rattle.utf8.specs.White.{white1, white2, in2000, white3, whiteAt, whiteLen, leading, leadingFrom, trimStart, allWhite}
+use Rattle.utf8.proofs.Ranges.{neither}
 use Rattle.utf8.proofs.Laws.{part-cons, part-empty, leading-none, leading-on}
 use Rattle.lines.specs.declared.Place.{Place}
-use Rattle.lines.specs.declared.Place.the-variants.{Fresh}
+use Rattle.lines.specs.declared.Place.the-variants.{Fresh, Plain, Single, Double, Hidden}
 use Rattle.lines.specs.Lines.{Line, indentOf, hasTab, tabbed, startsComment, placeAfter, uncommented, stripComment}
 use Rattle.lines.specs.Dash.{dashed, isDash}
-use Rattle.lines.specs.Places.{untilNewline}
+use Rattle.lines.specs.Places.{Lacks, untilNewline}
+
+-- ---- parts without a byte
+
+module _ (s : List ℕ) (i b : ℕ) where
+  pub lacks-more : (j m : ℕ) → m ≡ j + 1 → Lacks s i j b → (getD s j 0 ≡ b → ⊥) → Lacks s i m b
+  lacks-more j m e f n k l h q = go (eqb k j) refl
+    where
+      go : (x : Bool) → eqb k j ≡ x → ⊥
+      go true p = n (ap (λ (a : ℕ). getD s a 0) (sym (eqb-true k j p)) ∙ q)
+      go false p = f k l (omega (arith, eqb-false k j p)) q
+
+  pub lacks-both : (j m : ℕ) → Lacks s i j b → Lacks s j m b → Lacks s i m b
+  lacks-both j m f g k l h q = go (ltb k j) refl
+    where
+      go : (x : Bool) → ltb k j ≡ x → ⊥
+      go true p = f k l (ltb-true k j p) q
+      go false p = g k (ltb-false k j p) h q
+
+  abbrev is : ℕ → Bool
+  is k = eqb (getD s k 0) b
+
+  pub lacks-eight : is i || is (i + 1) || is (i + 2) || is (i + 3) || is (i + 4) || is (i + 5) || is (i + 6) || is (i + 7) ≡ false → Lacks s i (i + 8) b
+  lacks-eight z =
+      let z7 = neither (is i || is (i + 1) || is (i + 2) || is (i + 3) || is (i + 4) || is (i + 5) || is (i + 6)) (is (i + 7)) z in
+      let z6 = neither (is i || is (i + 1) || is (i + 2) || is (i + 3) || is (i + 4) || is (i + 5)) (is (i + 6)) (z7 .0) in
+      let z5 = neither (is i || is (i + 1) || is (i + 2) || is (i + 3) || is (i + 4)) (is (i + 5)) (z6 .0) in
+      let z4 = neither (is i || is (i + 1) || is (i + 2) || is (i + 3)) (is (i + 4)) (z5 .0) in
+      let z3 = neither (is i || is (i + 1) || is (i + 2)) (is (i + 3)) (z4 .0) in
+      let z2 = neither (is i || is (i + 1)) (is (i + 2)) (z3 .0) in
+      let z1 = neither (is i) (is (i + 1)) (z2 .0) in
+      more 7 (more 6 (more 5 (more 4 (more 3 (more 2 (more 1 (more 0 (λ k l h. absurd (omega arith)) (at0 (z1 .0))) (z1 .1)) (z2 .1)) (z3 .1)) (z4 .1)) (z5 .1)) (z6 .1)) (z7 .1)
+    where
+      at0 : is i ≡ false → is (i + 0) ≡ false
+      at0 e = let z : i + 0 ≡ i = omega arith in rw z e
+
+      more : (n : ℕ) → Lacks s i (i + n) b → is (i + n) ≡ false → Lacks s i (i + suc n) b
+      more n f e = lacks-more (i + n) (i + suc n) (omega arith) f (eqb-false (getD s (i + n) 0) b e)
 
 -- ---- newlines
 
@@ -37,41 +75,17 @@ module _ (s : List ℕ) (i : ℕ) where
   unfolding untilNewline if_then_else_
   newline-on h n = rw (add-one, drop-cons s i 0 h, ne-eqb (getD s i 0) (ch "\n") n)
 
-neither : (a b : Bool) → a || b ≡ false → (a ≡ false) × (b ≡ false)
-neither false b e = (refl, e)
-neither true b e = absurd (false≢true (sym e))
+-- the place that a search for a newline finds
+pub newline-found : (s : List ℕ) (at r : ℕ) → at ≤ r → r ≤ length s → Lacks s at r (ch "\n") → (r < length s → getD s r 0 ≡ ch "\n") → r ≡ at + untilNewline (drop at s)
+newline-found s at r l h f g = omega (arith, over (r - at) at (omega arith) f, ends (ltb r (length s)) refl)
+  where
+    over : (n i : ℕ) → i + n ≡ r → Lacks s i r (ch "\n") → untilNewline (drop i s) ≡ n + untilNewline (drop r s)
+    over zero i e k = let z : i ≡ r = omega arith in rw z (omega arith)
+    over (suc n) i e k = omega (arith, newline-on s i (omega arith) (k i (omega arith) (omega arith)), over n (i + 1) (omega arith) (λ j a. k j (omega arith)))
 
--- eight bytes of which none is a newline
-module _ (s : List ℕ) (i : ℕ) where
-  abbrev is : ℕ → Bool
-  is k = eqb (getD s k 0) (ch "\n")
-
-  pub newline-eight : i + 8 ≤ length s → is i || is (i + 1) || is (i + 2) || is (i + 3) || is (i + 4) || is (i + 5) || is (i + 6) || is (i + 7) ≡ false → untilNewline (drop i s) ≡ 8 + untilNewline (drop (i + 8) s)
-  newline-eight h z =
-      let z7 = neither (is i || is (i + 1) || is (i + 2) || is (i + 3) || is (i + 4) || is (i + 5) || is (i + 6)) (is (i + 7)) z in
-      let z6 = neither (is i || is (i + 1) || is (i + 2) || is (i + 3) || is (i + 4) || is (i + 5)) (is (i + 6)) (z7 .0) in
-      let z5 = neither (is i || is (i + 1) || is (i + 2) || is (i + 3) || is (i + 4)) (is (i + 5)) (z6 .0) in
-      let z4 = neither (is i || is (i + 1) || is (i + 2) || is (i + 3)) (is (i + 4)) (z5 .0) in
-      let z3 = neither (is i || is (i + 1) || is (i + 2)) (is (i + 3)) (z4 .0) in
-      let z2 = neither (is i || is (i + 1)) (is (i + 2)) (z3 .0) in
-      let z1 = neither (is i) (is (i + 1)) (z2 .0) in
-      omega (
-        arith,
-        to i (i + 1) (omega arith) (omega arith) (z1 .0),
-        to (i + 1) (i + 2) (omega arith) (omega arith) (z1 .1),
-        to (i + 2) (i + 3) (omega arith)
-            (omega arith) (z2 .1),
-        to (i + 3) (i + 4) (omega arith) (omega arith) (z3 .1),
-        to (i + 4) (i + 5) (omega arith) (omega arith) (z4 .1),
-        to (i + 5)
-            (i + 6) (omega arith) (omega arith) (z5 .1),
-        to (i + 6) (i + 7) (omega arith) (omega arith) (z6 .1),
-        to (i + 7) (i + 8) (omega arith) (omega arith)
-            (z7 .1),
-      )
-    where
-      to : (i j : ℕ) → j ≡ i + 1 → i < length s → is i ≡ false → untilNewline (drop i s) ≡ suc (untilNewline (drop j s))
-      to i j e h n = newline-on s i h (eqb-false (getD s i 0) (ch "\n") n) ∙ ap (λ (k : ℕ). suc (untilNewline (drop k s))) (sym e)
+    ends : (x : Bool) → ltb r (length s) ≡ x → untilNewline (drop r s) ≡ 0
+    ends true e = let m : r < length s = ltb-true r (length s) e in newline-here s r m (g m)
+    ends false e = newline-none s r (ltb-false r (length s) e)
 
 -- ---- indentation and comments
 
@@ -102,6 +116,25 @@ module _ (s : List ℕ) (e : ℕ) where
           → length (uncommented p (part s i e)) ≡ suc (length (uncommented (placeAfter p (getD s i 0)) (part s (i + 1) e)))
       unfolding uncommented if_then_else_
       comment-on t = rw (part-cons s i e h k, t)
+
+-- a part without `#` has no comment
+starts-other : (p : Place) (b : ℕ) → (b ≡ ch "#" → ⊥) → startsComment p b ≡ false
+unfolding startsComment
+starts-other Fresh b n = ne-eqb b (ch "#") n
+starts-other Plain b n = refl
+starts-other Single b n = refl
+starts-other Double b n = refl
+starts-other Hidden b n = refl
+
+uncommented-all : (s : List ℕ) (e : ℕ) → e ≤ length s → (n i : ℕ) (p : Place) → i + n ≡ e → Lacks s i e (ch "#") → length (uncommented p (part s i e)) ≡ n
+uncommented-all s e h zero i p q f = let z : i ≡ e = omega arith in rw z (comment-none s e p)
+uncommented-all s e h (suc n) i p q f =
+    comment-on s e i (omega arith) h p (starts-other p (getD s i 0) (f i (omega arith) (omega arith)))
+    ∙ ap suc (uncommented-all s e h n (i + 1) (placeAfter p (getD s i 0)) (omega arith) (λ k l. f k (omega arith)))
+
+pub strip-none : (s : List ℕ) (i e : ℕ) → i ≤ e → e ≤ length s → Lacks s i e (ch "#") → e ≡ i + length (stripComment (part s i e))
+unfolding stripComment
+strip-none s i e l h f = omega (arith, uncommented-all s e h (e - i) i Fresh (omega arith) f)
 
 -- what is left of a text before its comment is a front of it
 uncommented-take : (p : Place) (s : List ℕ) → uncommented p s ≡ take (length (uncommented p s)) s
@@ -155,6 +188,21 @@ tab-here (b ∷ s) n e =
     go : (l : ℕ) → 0 < l → hasTab (take l (b ∷ s)) ≡ true
     go zero h = absurd (omega arith)
     go (suc l) h = rw (eq-eqb b (ch "\t") e)
+
+-- what a search for a tab finds
+pub tab-search : (s : List ℕ) (a e r : ℕ) → a ≤ r → r ≤ e → e ≤ length s → Lacks s a r (ch "\t") → (r < e → getD s r 0 ≡ ch "\t") → ltb r e ≡ hasTab (part s a e)
+unfolding hasTab
+tab-search s a e r l h m f g = over (r - a) a (omega arith) f
+  where
+    ends : (x : Bool) → ltb r e ≡ x → x ≡ hasTab (part s r e)
+    ends true p = let k : r < e = ltb-true r e p in rw (part-cons s r e k m, eq-eqb (getD s r 0) (ch "\t") (g k))
+    ends false p = let k : r ≡ e = omega (arith, ltb-false r e p) in rw (k, part-empty s e)
+
+    over : (n i : ℕ) → i + n ≡ r → Lacks s i r (ch "\t") → ltb r e ≡ hasTab (part s i e)
+    over zero i q k = let z : i ≡ r = omega arith in rw z (ends (ltb r e) refl)
+    over (suc n) i q k =
+        let z : i < e = omega arith in
+        over n (i + 1) (omega arith) (λ j b. k j (omega arith)) ∙ rw (part-cons s i e z m, ne-eqb (getD s i 0) (ch "\t") (k i (omega arith) (omega arith)))
 
 -- no byte of a white space character is a tab if its first is none
 front-no-tab : (s : List ℕ) → (getD s 0 0 ≡ ch "\t" → ⊥) → hasTab (take (whiteLen s) s) ≡ false

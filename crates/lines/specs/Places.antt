@@ -4,12 +4,16 @@ use mathlib.Core.Path.{_≡_}
 use Prim.Native.Nat.{ℕ, suc, _+_, _≤_, _<_}
 use mathlib.Core.List.{List, [], _∷_, _++_}
 use lib.Dec.{eqb}
-use lib.ListN.{length, drop}
+use lib.ListN.{length, drop, getD}
 use Rattle.refusal.specs.Base.{if_then_else_, ch}
 use Rattle.utf8.specs.Part.{part}
 use Rattle.lines.specs.declared.Raw.{Raw}
 use Rattle.lines.specs.declared.Literal.the-variants.{Under}
 use Rattle.lines.specs.Lines.{splitLines, indentOf, Event, eventsOf, literalAfter, bodyOf, scan}
+
+-- no byte from the place `from` up to the place `to` is `b`
+abbrev pub Lacks : List ℕ → ℕ → ℕ → ℕ → Type 0
+Lacks s from to b = (k : ℕ) → from ≤ k → k < to → getD s k 0 ≡ b → ⊥
 
 -- how many bytes stand before a text's first newline
 unfoldable pub untilNewline : List ℕ → ℕ

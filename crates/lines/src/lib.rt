@@ -3,7 +3,7 @@ ghost use mathlib.Core.Path.{_≡_};
 ghost use mathlib.Core.Bool.{false};
 ghost use mathlib.Core.List.{List, [], _∷_, _++_};
 ghost use Prim.Native.Nat.{ℕ, _+_, _*_, _≤_, _<_, _^_};
-ghost use lib.ListN.{length, drop};
+ghost use lib.ListN.{length, drop, getD};
 ghost use lib.Seq.{sets};
 ghost use Rattle.refusal.specs.Base.{endsWith};
 ghost use Rattle.utf8.specs.Part.{part};
@@ -11,14 +11,13 @@ ghost use Rattle.lines.specs.Lines.{indentOf, tabbed, afterPlain, placeA
 ghost use Rattle.lines.specs.Lines.{literalOf, Event, blanksBefore, scan, mostLines};
 ghost use Rattle.lines.specs.Dash as definition;
 ghost use Rattle.lines.specs.Dash.{isDash};
-ghost use Rattle.lines.specs.Places.{untilNewline, LineEnds, IsRaw, RawAt, rawText, normal, body};
+ghost use Rattle.lines.specs.Places.{Lacks, untilNewline, LineEnds, IsRaw, RawAt, rawText, normal, body};
 ghost use Rattle.lines.specs.Table.{tableSize, lineAt, Took, Takes, AgreesLines, IsEntry};
 ghost use Rattle.lines.specs.Ready.{Ready};
 use item::same_bytes;
 use refusal::Refusal;
 use utf8::trim_end;
 use utf8::trim_start;
-use utf8::white_at;
 
 // The most entries that a text may have, and the numbers of their table, four for each.
 pub const MOST_LINES: usize = 2048;
@@ -72,33 +71,48 @@ pub enum LineTaken {
     Refused(Refusal),
 }
 
-// Whether one of eight bytes is a newline: with no branch between them, they are looked at together.
-fn newline_in_eight(text: &[u8], i: usize) -> bool
+// Whether one of eight bytes is `b`: with no branch between them, they are looked at together.
+fn in_eight(text: &[u8], i: usize, b: u8) -> bool
     requires { ⌜ i + 8 ≤ length (now text) ⌝ }
-    ensures { λ r. ⌜ (r ≡ false → untilNewline (drop i (now (text .entry))) ≡ 8 + untilNewline (drop (i + 8) (now (text .entry)))) ⌝ }
+    ensures { λ r. ⌜ (r ≡ false → Lacks (now (text .entry)) i (i + 8) b) ⌝ }
 {
-    (text[i] == b'\n')
-        | (text[i + 1] == b'\n')
-        | (text[i + 2] == b'\n')
-        | (text[i + 3] == b'\n')
-        | (text[i + 4] == b'\n')
-        | (text[i + 5] == b'\n')
-        | (text[i + 6] == b'\n')
-        | (text[i + 7] == b'\n')
+    (text[i] == b)
+        | (text[i + 1] == b)
+        | (text[i + 2] == b)
+        | (text[i + 3] == b)
+        | (text[i + 4] == b)
+        | (text[i + 5] == b)
+        | (text[i + 6] == b)
+        | (text[i + 7] == b)
 }
 
-// A place up to which the line at `at` has no newline.
-fn skip_eights(text: &[u8], at: usize) -> usize
-    requires { ⌜ at ≤ length (now text) ⌝ }
-    ensures { λ r. ⌜ (at + untilNewline (drop at (now (text .entry))) ≡ r + untilNewline (drop r (now (text .entry))))
-        × (r ≤ length (now (text .entry))) ⌝ }
+// A place up to which a part has no `b`.
+fn skip_eights(text: &[u8], from: usize, to: usize, b: u8) -> usize
+    requires { ⌜ (from ≤ to) × (to ≤ length (now text)) ⌝ }
+    ensures { λ r. ⌜ (from ≤ r) × (r ≤ to) × Lacks (now (text .entry)) from r b ⌝ }
 {
-    let mut i = at;
-    while text.len() - i >= 8 {
-        if newline_in_eight(text, i) {
+    let mut i = from;
+    while to - i >= 8 {
+        if in_eight(text, i, b) {
             break;
         }
         i += 8;
+    }
+    i
+}
+
+// Where the first `b` of a part stands, or the part's end.
+fn find_byte(text: &[u8], from: usize, to: usize, b: u8) -> usize
+    requires { ⌜ (from ≤ to) × (to ≤ length (now text)) ⌝ }
+    ensures { λ r. ⌜ (from ≤ r) × (r ≤ to) × Lacks (now (text .entry)) from r b ⌝ }
+    ensures found { λ r. ⌜ (r < to → getD (now (text .entry)) r 0 ≡ b) ⌝ }
+{
+    let mut i = skip_eights(text, from, to, b);
+    while i < to {
+        if text[i] == b {
+            break;
+        }
+        i += 1;
     }
     i
 }
@@ -108,14 +122,7 @@ fn newline_at(text: &[u8], at: usize) -> usize
     requires { ⌜ at ≤ length (now text) ⌝ }
     ensures { λ r. ⌜ (r ≡ at + untilNewline (drop at (now (text .entry)))) × (r ≤ length (now (text .entry))) ⌝ }
 {
-    let mut i = skip_eights(text, at);
-    while i < text.len() {
-        if text[i] == b'\n' {
-            break;
-        }
-        i += 1;
-    }
-    i
+    find_byte(text, at, text.len(), b'\n')
 }
 
 // Where that line ends without the carriage return before its newline.
@@ -155,17 +162,8 @@ fn tab_leads(text: &[u8], from: usize, to: usize) -> bool
     requires { ⌜ (from ≤ to) × (to ≤ length (now text)) ⌝ }
     ensures { λ r. ⌜ r ≡ tabbed (part (now (text .entry)) from to) ⌝ }
 {
-    let mut i = from;
-    loop {
-        let n = white_at(text, i, to);
-        if n == 0 {
-            return false;
-        }
-        if text[i] == b'\t' {
-            return true;
-        }
-        i += n;
-    }
+    let end = trim_start(text, from, to);
+    find_byte(text, from, end, b'\t') < end
 }
 
 fn after_plain(b: u8) -> Place
@@ -223,11 +221,14 @@ fn starts_comment(place: Place, b: u8) -> bool
     }
 }
 
-// Where the comment of a part starts, or the part's end.
+// Where the comment of a part starts, or the part's end. Most parts have no `#`.
 fn comment_at(text: &[u8], from: usize, to: usize) -> usize
     requires { ⌜ (from ≤ to) × (to ≤ length (now text)) ⌝ }
     ensures { λ r. ⌜ (r ≡ from + length (stripComment (part (now (text .entry)) from to))) × (r ≤ to) ⌝ }
 {
+    if find_byte(text, from, to, b'#') == to {
+        return to;
+    }
     let mut place = Place::Fresh;
     let mut i = from;
     while i < to {

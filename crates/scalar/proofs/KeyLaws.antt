@@ -1,18 +1,19 @@
 -- What the code's branches tell of the definitions of the key search. Assumes nothing.
-use mathlib.Core.Path.{_≡_, sym}
+use mathlib.Core.Path.{_≡_, refl, sym, _∙_}
 use mathlib.Core.Logic.{_⊎_, inl, inr}
 use Prim.Native.Nat.{ℕ, suc, _+_, _-_, _<_, _≤_}
 use native.Mathlib.Omega.{arith}
-use mathlib.Core.Bool.{Bool, true, false, not}
+use mathlib.Core.Bool.{Bool, true, false, not, _||_, and-false}
 use mathlib.Core.List.{List}
 use mathlib.Core.Option.{none, some}
 use lib.Dec.{eqb}
 use lib.ListN.{length, drop, getD, drop-of-length-le}
 use native.Mathlib.Numerals.{add-one}
 use lib.Seq.{drop-cons}
-use borrow.Author.Tests.{eq-eqb, ne-eqb}
+use borrow.Author.Tests.{eq-eqb, ne-eqb, eqb-true}
 use Rattle.refusal.specs.Base.{if_then_else_}
 use Rattle.scalar.specs.Key.{quoteAfter, depthAfter, opens, closes, lastOrSpace, qualifies, keyEndFrom}
+use Rattle.scalar.specs.Code.{Quoting, Passes}
 
 pub q-open : (q b : ℕ) → q ≡ 0 → (b ≡ 34) ⊎ (b ≡ 39) → b ≡ quoteAfter q b
 unfolding quoteAfter if_then_else_
@@ -108,3 +109,49 @@ depth-turn q d b i d′ e h = omega (arith, depth-bound q d b)
 pub key-end : (s : List ℕ) (q d i : ℕ) → length s ≤ i → keyEndFrom q d i (drop i s) ≡ none
 unfolding keyEndFrom
 key-end s q d i h = rw (drop-of-length-le s {i = i} h)
+
+-- ---- bytes that are passed
+
+-- none of the marks, in the order of their numbers
+pub passes-other : (b : ℕ) → ((b ≡ 34) ⊎ ((b ≡ 39) ⊎ ((b ≡ 58) ⊎ ((b ≡ 91) ⊎ ((b ≡ 93) ⊎ ((b ≡ 123) ⊎ (b ≡ 125)))))) → ⊥) → Passes b
+unfolding qualifies
+passes-other b n q d bs o = (rw (ne-eqb b 58 (λ e. n (inr (inr (inl e)))), and-false (eqb q 0)), quote o, depth o)
+  where
+    no-quote : (b ≡ 34) ⊎ (b ≡ 39) → ⊥
+    no-quote (inl e) = n (inl e)
+    no-quote (inr e) = n (inr (inl e))
+
+    no-open : (b ≡ 91) ⊎ (b ≡ 123) → ⊥
+    no-open (inl e) = n (inr (inr (inr (inl e))))
+    no-open (inr e) = n (inr (inr (inr (inr (inr (inl e))))))
+
+    no-close : (b ≡ 93) ⊎ (b ≡ 125) → ⊥
+    no-close (inl e) = n (inr (inr (inr (inr (inl e)))))
+    no-close (inr e) = n (inr (inr (inr (inr (inr (inr e))))))
+
+    quote : Quoting q → q ≡ quoteAfter q b
+    quote (inl e) = e ∙ q-plain q b e no-quote
+    quote (inr (inl e)) = q-stay q b (λ z. omega arith) (λ z. no-quote (inl (z ∙ e)))
+    quote (inr (inr e)) = q-stay q b (λ z. omega arith) (λ z. no-quote (inr (z ∙ e)))
+
+    depth : Quoting q → d ≡ depthAfter q d b
+    depth (inl e) = d-other q d b e no-open no-close
+    depth (inr (inl e)) = d-quoted q d b (λ z. omega arith)
+    depth (inr (inr e)) = d-quoted q d b (λ z. omega arith)
+
+pub passes-on : (s : List ℕ) (q d i : ℕ) → i < length s → Passes (getD s i 0) → Quoting q → keyEndFrom q d (i + 1) (drop (i + 1) s) ≡ keyEndFrom q d i (drop i s)
+passes-on s q d i h p o =
+    let k = p q d (drop (suc i) s) o in
+    key-turn s q d i q d h (rw (drop-cons s i 0 h) (k .0)) (k .1) (k .2)
+
+-- a byte leaves nothing else open
+pub quoting-on : (q b : ℕ) → Quoting q → Quoting (quoteAfter q b)
+unfolding quoteAfter if_then_else_
+quoting-on q b o = go (eqb q 0) (eqb b 39) (eqb b 34) (eqb b q) refl refl
+  where
+    go : (x y z w : Bool) → eqb b 39 ≡ y → eqb b 34 ≡ z → Quoting (if x then (if y || z then b else 0) else if w then 0 else q)
+    go true true z w e f = inr (inr (eqb-true b 39 e))
+    go true false true w e f = inr (inl (eqb-true b 34 f))
+    go true false false w e f = inl refl
+    go false y z true e f = inl refl
+    go false y z false e f = o

@@ -3,3 +3,4 @@ pub mod Laws
 pub mod NumberLaws
 pub mod QuoteLaws
 pub mod Open
+pub mod Copied

@@ -1,10 +1,11 @@
 -- Section 2 of document 01, for the contracts inside the crate: what the code's answers say in the words of the definitions, and plain text
--- by its length. Uses Base and Told of `refusal`; Tree and Encode of `item`; Read of this crate. Assumes nothing.
+-- by its length. Uses Base and Told of `refusal`; Tree and Encode of `item`; Key and Read of this crate. Assumes nothing.
 use mathlib.Core.Path.{_≡_}
 use Prim.Native.Nat.{ℕ, suc, _+_, _≤_, _<_}
 use mathlib.Core.List.{List, [], _∷_}
 use mathlib.Core.Bool.{Bool, true, false, _&&_}
 use mathlib.Core.Option.{Option, none, some}
+use mathlib.Core.Logic.{_⊎_}
 use lib.Dec.{leb}
 use lib.IntN.{ℤ}
 use lib.ListN.{length, drop}
@@ -30,11 +31,22 @@ use Rattle.scalar.specs.declared.quoted_text.Escape.{Escape}
 use Rattle.scalar.specs.declared.quoted_text.Escape.the-variants as escaped
 use Rattle.scalar.specs.declared.quoted_text.Span.{Span}
 use Rattle.scalar.specs.declared.quoted_text.Span.the-variants as span
+use Rattle.scalar.specs.Key.{quoteAfter, depthAfter, qualifies}
 use Rattle.scalar.specs.Read.{stopsPlain, ontoGood, doubleQuoted, singleQuoted}
 
 abbrev pub foundOf : Option ℕ → Found
 foundOf none = Nothing
 foundOf (some n) = At n
+
+-- ---- the search for a key's end
+
+-- what can be open: no quote, or one of the two
+abbrev pub Quoting : ℕ → Type 0
+Quoting q = (q ≡ 0) ⊎ ((q ≡ ch "\"") ⊎ (q ≡ ch "'"))
+
+-- a byte at which the search does nothing, whatever is open
+abbrev pub Passes : ℕ → Type 0
+Passes b = (q depth : ℕ) (bs : List ℕ) → Quoting q → (qualifies q depth (b ∷ bs) ≡ false) × (q ≡ quoteAfter q b) × (depth ≡ depthAfter q depth b)
 
 -- ---- integers
 

@@ -1,4 +1,5 @@
-// Quoted strings, read twice: where the string ends and how many bytes it has, and then its bytes, straight into their place.
+// Quoted strings, read twice: where the string ends and how many bytes it has, and then its bytes, straight into their place. Where nothing
+// is escaped they are copied.
 ghost use mathlib.Core.Path.{_≡_};
 ghost use mathlib.Core.List.{List};
 ghost use mathlib.Core.Bool.{true, false};
@@ -12,6 +13,7 @@ ghost use Rattle.scalar.specs.Contract.{AgreesParsed};
 ghost use Rattle.scalar.specs.Code.{escapeOf, quotedOf, AgreesPiece, Spans};
 use super::Parsed;
 use super::Role;
+use item::copy;
 use item::put_header;
 use refusal::Refusal;
 
@@ -159,6 +161,29 @@ fn put_bytes(quote: Quote, s: &[u8], i: usize, line: u32, size: usize, out: &mut
     }
 }
 
+// The same bytes of a string whose closing quote stands before `next`: where each takes one place, none is escaped.
+fn put_content(
+    quote: Quote,
+    s: &[u8],
+    i: usize,
+    next: usize,
+    line: u32,
+    size: usize,
+    out: &mut [u8],
+    at: usize,
+)
+    requires { ⌜ (i + size ≤ length (now s)) × (next ≤ length (now s)) × (at + size ≤ length (now out)) ⌝ }
+    ensures { λ _. ⌜ ((cap : ℕ) (t : List ℕ) → quotedOf quote cap line (drop i (now (s .entry))) ≡ good (t, drop next (now (s .entry)))
+        → length t ≡ size → now (out .exit) ≡ sets (now (out .entry)) at t) ⌝ }
+{
+    let end = i + size;
+    if next == end + 1 {
+        copy(out, at, &s[i..end]);
+        return;
+    }
+    put_bytes(quote, s, i, line, size, out, at);
+}
+
 fn quoted(quote: Quote, s: &[u8], i: usize, line: u32, out: &mut [u8], at: usize) -> Parsed
     requires { ⌜ (i ≤ length (now s)) × (length (now s) ≤ 65535) × (at ≤ length (now out)) × (length (now out) ≤ 2 ^ 20) ⌝ }
     ensures { λ r. ⌜ ((role : Roles) → AgreesParsed role (string (length (now (out .entry))) line role at
@@ -171,7 +196,7 @@ fn quoted(quote: Quote, s: &[u8], i: usize, line: u32, out: &mut [u8], at: usize
                 return Parsed::Refused(Refusal::WorkTooShort);
             }
             put_header(out, at, 3, size);
-            put_bytes(quote, s, i, line, size, out, at + 6);
+            put_content(quote, s, i, next, line, size, out, at + 6);
             Parsed::Done {
                 next,
                 used: at + 6 + size,

@@ -6,20 +6,20 @@ use mathlib.Core.List.{List}
 use mathlib.Core.Bool.{Bool, true, false}
 use mathlib.Core.Option.{Option, none, some}
 use lib.ListN.{length, take, drop}
-use Rattle.refusal.specs.Base.{Answer, good, refused, ensure, maybe}
+use Rattle.refusal.specs.Base.{Answer, good, refused, ensure, maybe, bytes}
 use Rattle.refusal.specs.Told.{refusal}
-use Rattle.item.specs.Tree.{Yaml, dict, Entries, done, pair, Ranged}
+use Rattle.item.specs.Tree.{Yaml, dict, Entries, Ranged, get}
 use Rattle.item.specs.Encode.{encode}
 use Rattle.item.specs.declared.Found.{Found}
+use Rattle.item.specs.declared.Found.the-variants as found
 use Rattle.scalar.specs.Scalars.{keyText}
-use Rattle.entries.specs.declared.Pair.{Pair}
-use Rattle.entries.specs.declared.Pair.the-variants as pairs
-use Rattle.entries.specs.Entries.{Stands, Holds, Finds, FoundInside}
+use Rattle.entries.specs.Entries.{Stands, Finds, FoundInside}
 use Rattle.nodes.specs.Contract.{ReadsFound}
 use Rattle.meaning.specs.Meaning.{Step}
 use Rattle.meaning.specs.Meanings.{orEmpty, expectOf, commands, commandOf, expectAllowed, isTrue}
 use Rattle.step.specs.declared.Command.{Command}
-use Rattle.step.specs.declared.Command.the-variants.{One, Other}
+use Rattle.step.specs.declared.Command.the-variants.{Nothing, One, More}
+use Rattle.step.specs.declared.StepFields.{StepFields}
 use Rattle.step.specs.declared.StepPlaces.{StepPlaces}
 use Rattle.step.specs.declared.StepRead.{StepRead}
 use Rattle.step.specs.declared.StepRead.the-variants as read
@@ -77,23 +77,6 @@ AgreesExpect o false = (line n : ℕ) → expectOf line n o ≡ refused 33 line 
 
 -- ---- 34
 
--- the first of some commands, and the entries that the others are of
-pub record FirstCommand (s : List ℕ) (to : ℕ) (cs : Entries) (start end next : ℕ) : Type 0 where
-  pub k : List ℕ
-  pub v : Yaml
-  pub others : Entries
-  pub is : cs ≡ pair k v (commands others)
-  pub entry : EntryAt s start end k v
-  pub behind : Holds s next to others
-
-abbrev pub AgreesFirst : List ℕ → ℕ → Entries → Pair → Type 0
-AgreesFirst s to cs (pairs.At start end kind next) = FirstCommand s to cs start end next
-AgreesFirst s to cs pairs.Nowhere = cs ≡ done
-
-abbrev pub FirstInside : List ℕ → Pair → Type 0
-FirstInside s (pairs.At start end kind next) = (start ≤ end) × (end ≤ length s)
-FirstInside s pairs.Nowhere = Unit {0}
-
 -- the one command
 pub record OneCommand (s : List ℕ) (cs : Entries) (key value : ℕ) : Type 0 where
   pub k : List ℕ
@@ -103,11 +86,45 @@ pub record OneCommand (s : List ℕ) (cs : Entries) (key value : ℕ) : Type 0 w
 
 abbrev pub AgreesCommand : List ℕ → Entries → Command → Type 0
 AgreesCommand s cs (One key value) = OneCommand s cs key value
-AgreesCommand s cs Other = (n : ℕ) → commandOf n cs ≡ refused 34 0 n
+AgreesCommand s cs Nothing = (n : ℕ) → commandOf n cs ≡ refused 34 0 n
+AgreesCommand s cs More = (n : ℕ) → commandOf n cs ≡ refused 34 0 n
 
 abbrev pub CommandInside : List ℕ → Command → Type 0
 CommandInside s (One key value) = (key ≤ value) × (value ≤ length s)
-CommandInside s Other = Unit {0}
+CommandInside s Nothing = Unit {0}
+CommandInside s More = Unit {0}
+
+-- ---- the fields of entries
+
+-- with one entry more: the first of a key counts
+abbrev pub fieldWith : Found → Bool → ℕ → Found
+fieldWith (found.At p) same value = found.At p
+fieldWith found.Nothing true value = found.At value
+fieldWith found.Nothing false value = found.Nothing
+
+abbrev pub commandWith : Command → Bool → ℕ → ℕ → Command
+commandWith command true key value = command
+commandWith Nothing false key value = One key value
+commandWith (One k v) false key value = More
+commandWith More false key value = More
+
+-- what is known of entries
+pub record AgreesFields (s : List ℕ) (es : Entries) (f : StepFields) : Type 0 where
+  pub name : Finds s (get (bytes "name") es) (f .name)
+  pub id : Finds s (get (bytes "id") es) (f .id)
+  pub timeout : Finds s (get (bytes "timeout") es) (f .timeout)
+  pub continue : Finds s (get (bytes "continue_on_error") es) (f .continues)
+  pub expect : Finds s (get (bytes "expect") es) (f .expect)
+  pub command : AgreesCommand s (commands es) (f .command)
+
+-- places in the bytes, whatever they are
+pub record FieldsInside (s : List ℕ) (f : StepFields) : Type 0 where
+  pub name : FoundInside s (f .name)
+  pub id : FoundInside s (f .id)
+  pub timeout : FoundInside s (f .timeout)
+  pub continue : FoundInside s (f .continues)
+  pub expect : FoundInside s (f .expect)
+  pub command : CommandInside s (f .command)
 
 -- ---- 35
 

@@ -11,17 +11,16 @@ ghost use Rattle.entries.specs.Entries.{Stands, Holds, Finds};
 ghost use Rattle.nodes.specs.Contract.{Stored, AgreesPart, PartNear};
 ghost use Rattle.meaning.specs.Meaning.{Step};
 ghost use Rattle.meaning.specs.Record.{textItem, optional, expected, stepItem};
-ghost use Rattle.meaning.specs.Meanings.{commands, isTrue, stepOf, stepAt};
-ghost use Rattle.step.specs.Contract.{StepStands, AgreesStep, ReadInside, AgreesExpect, AgreesFirst, FirstInside, AgreesCommand};
-ghost use Rattle.step.specs.Contract.{CommandInside, AgreesAllowed};
+ghost use Rattle.meaning.specs.Meanings.{isTrue, stepOf, stepAt};
+ghost use Rattle.step.specs.Contract.{StepStands, AgreesStep, ReadInside, AgreesExpect, fieldWith, commandWith};
+ghost use Rattle.step.specs.Contract.{FieldsInside, AgreesFields, AgreesAllowed};
 use entries::Pair;
-use entries::find;
 use entries::pair_at;
 use item::Found;
 use item::Header;
 use item::header_at;
+use item::same_bytes;
 use meaning::is_built_in;
-use meaning::is_step_field;
 use nodes::Part;
 use nodes::close;
 use nodes::put_found;
@@ -47,18 +46,61 @@ pub enum StepRead {
     Refused(Refusal),
 }
 
-// The one entry whose key is no step field, if there is just one.
+// The entries whose key is no step field: none, one, or more.
 enum Command {
+    Nothing,
     One { key: usize, value: usize },
-    Other,
+    More,
 }
 
-// The first of the entries from `from` to `to` whose key is no step field.
-fn first_command(s: &[u8], from: usize, to: usize) -> Pair
-    requires { ⌜ (length (now s) ≤ 2 ^ 20) × (to ≤ length (now s)) ⌝ }
-    ensures { λ r. ⌜ FirstInside (now (s .entry)) r ⌝ }
-    ensures command { λ r. ⌜ ((es : Entries) → Holds (now (s .entry)) from to es → AgreesFirst (now (s .entry)) to (commands es) r) ⌝ }
+// What entries say: where the value of each step field stands, the first of its key, and the command.
+struct StepFields {
+    name: Found,
+    id: Found,
+    timeout: Found,
+    continues: Found,
+    expect: Found,
+    command: Command,
+}
+
+// A field with one entry more: `same` says whether the entry has the field's key.
+fn field_with(field: Found, same: bool, value: usize) -> Found
+    ensures { λ r. ⌜ r ≡ fieldWith field same value ⌝ }
 {
+    let Found::Nothing = field else {
+        return field;
+    };
+    if same {
+        return Found::At(value);
+    }
+    field
+}
+
+// The command with one entry more: `is_field` says whether the entry has the key of a step field.
+fn command_with(command: Command, is_field: bool, key: usize, value: usize) -> Command
+    ensures { λ r. ⌜ r ≡ commandWith command «is_field» key value ⌝ }
+{
+    if is_field {
+        return command;
+    }
+    let Command::Nothing = command else {
+        return Command::More;
+    };
+    Command::One { key, value }
+}
+
+// What the entries from `from` to `to` say, in one walk.
+fn fields_in(s: &[u8], from: usize, to: usize) -> StepFields
+    requires { ⌜ (length (now s) ≤ 2 ^ 20) × (to ≤ length (now s)) ⌝ }
+    ensures { λ r. ⌜ FieldsInside (now (s .entry)) r ⌝ }
+    ensures fields { λ r. ⌜ ((es : Entries) → Holds (now (s .entry)) from to es → AgreesFields (now (s .entry)) es r) ⌝ }
+{
+    let mut name = Found::Nothing;
+    let mut id = Found::Nothing;
+    let mut timeout = Found::Nothing;
+    let mut continues = Found::Nothing;
+    let mut expect = Found::Nothing;
+    let mut command = Command::Nothing;
     let mut at = from;
     while at < to {
         let pair = pair_at(s, at);
@@ -69,39 +111,31 @@ fn first_command(s: &[u8], from: usize, to: usize) -> Pair
             next,
         } = pair
         else {
-            return Pair::Nowhere;
+            break;
         };
-        if !is_step_field(&s[start..end]) {
-            return pair;
-        }
+        let word = &s[start..end];
+        let is_name = same_bytes(word, b"name");
+        let is_id = same_bytes(word, b"id");
+        let is_timeout = same_bytes(word, b"timeout");
+        let is_continues = same_bytes(word, b"continue_on_error");
+        let is_expect = same_bytes(word, b"expect");
+        let is_field = is_name | is_id | is_timeout | is_continues | is_expect;
+        name = field_with(name, is_name, end);
+        id = field_with(id, is_id, end);
+        timeout = field_with(timeout, is_timeout, end);
+        continues = field_with(continues, is_continues, end);
+        expect = field_with(expect, is_expect, end);
+        command = command_with(command, is_field, start, end);
         at = next;
     }
-    Pair::Nowhere
-}
-
-fn command_in(s: &[u8], from: usize, to: usize) -> Command
-    requires { ⌜ (length (now s) ≤ 2 ^ 20) × (to ≤ length (now s)) ⌝ }
-    ensures { λ r. ⌜ CommandInside (now (s .entry)) r ⌝ }
-    ensures command { λ r. ⌜ ((es : Entries) → Holds (now (s .entry)) from to es → AgreesCommand (now (s .entry)) (commands es) r) ⌝ }
-{
-    let first = first_command(s, from, to);
-    let Pair::At {
-        start,
-        end,
-        kind: _,
-        next,
-    } = first
-    else {
-        return Command::Other;
-    };
-    let second = first_command(s, next, to);
-    if let Pair::Nowhere = second {
-        return Command::One {
-            key: start,
-            value: end,
-        };
+    StepFields {
+        name,
+        id,
+        timeout,
+        continues,
+        expect,
+        command,
     }
-    Command::Other
 }
 
 // Whether `expect` is absent or a mapping.
@@ -141,21 +175,22 @@ fn read_entries(s: &[u8], from: usize, to: usize, line: u32, number: u32) -> Ste
     ensures { λ r. ⌜ ReadInside (now (s .entry)) r ⌝ }
     ensures step { λ r. ⌜ ((es : Entries) → Holds (now (s .entry)) from to es → AgreesStep (now (s .entry)) (stepOf line number es) r) ⌝ }
 {
-    let expect = find(s, from, to, b"expect");
+    let fields = fields_in(s, from, to);
+    let expect = fields.expect;
     if !expect_fits(s, expect) {
         return StepRead::Refused(Refusal::ExpectNotMapping { line, step: number });
     }
-    let command = command_in(s, from, to);
+    let command = fields.command;
     let Command::One { key, value } = command else {
         return StepRead::Refused(Refusal::NotOneCommand { step: number });
     };
     if !expect_allowed(s, expect, key, value) {
         return StepRead::Refused(Refusal::ExpectBesideBuiltIn { line, step: number });
     }
-    let name = find(s, from, to, b"name");
-    let id = find(s, from, to, b"id");
-    let timeout = find(s, from, to, b"timeout");
-    let continues = find(s, from, to, b"continue_on_error");
+    let name = fields.name;
+    let id = fields.id;
+    let timeout = fields.timeout;
+    let continues = fields.continues;
     StepRead::Step(StepPlaces {
         name,
         id,

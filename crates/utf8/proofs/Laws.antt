@@ -160,10 +160,10 @@ leading-le s = from-le 0 s
 abbrev pub whiteFrom : ℕ → List ℕ → Bool
 whiteFrom k s = empty (drop (leadingFrom k s) s)
 
--- a byte that can only stand behind another begins no white space character
-tail-none : (a : ℕ) (s : List ℕ) → 0x80 ≤ a → a < 0xc0 → whiteAt a s ≡ none
+-- a visible byte, or one that can only stand behind another, begins no white space character
+pub first-none : (a : ℕ) (s : List ℕ) → 0x20 < a → a < 0xc0 → whiteAt a s ≡ none
 unfolding whiteAt if_then_else_ white1 white2 white3
-tail-none a s h k = go s
+first-none a s h k = go s
   where
     no1 : white1 a ≡ false
     no1 = rw (above (0x09 ‥ 0x0d) a (omega arith), ne-eqb a 0x20 (λ e. omega arith))
@@ -179,22 +179,19 @@ tail-none a s h k = go s
     go (b ∷ []) = rw (no1, no2 b)
     go (b ∷ c ∷ t) = rw (no1, no2 b, no3 b c)
 
--- so no byte of a white space character behind the first begins another
-module _ (w : ℕ) (ws : List ℕ) (k : ℕ) (e : whiteAt w ws ≡ some k) where
-  pub white-first : 0x80 ≤ w → w < 0xc0 → ⊥
-  white-first h l = let z : none ≡ some k = sym (tail-none w ws h l) ∙ e in let q : _≡_ {A = ℕ} 0 1 = cc in omega arith
-
+-- every byte of a white space character behind the first can only stand there
+module _ (w : ℕ) (first : 0x80 ≤ w → w < 0xc0 → ⊥) where
   other : (n : ℕ) → 0x80 ≤ n → n < 0xc0 → eqb w n ≡ false
-  other n h l = ne-eqb w n (λ q. white-first (omega arith) (omega arith))
+  other n h l = ne-eqb w n (λ q. first (omega arith) (omega arith))
 
   off : (r : Range) → 0x80 ≤ r .low → r .high < 0xc0 → within r w ≡ false
   off r h l = go (leb (r .low) w) refl
     where
       go : (t : Bool) → leb (r .low) w ≡ t → within r w ≡ false
-      go true q = above r w (let m : r .low ≤ w = leb-true (r .low) w q in omega (arith, white-first (omega arith)))
+      go true q = above r w (let m : r .low ≤ w = leb-true (r .low) w q in omega (arith, first (omega arith)))
       go false q = below r w (leb-false (r .low) w q)
 
-  no-second : (a : ℕ) → white2 a w ≡ false
+  pub no-second : (a : ℕ) → white2 a w ≡ false
   unfolding white2
   no-second a = rw (other 0x85 (omega arith) (omega arith), other 0xa0 (omega arith) (omega arith), and-false (eqb a 0xc2))
 
@@ -203,7 +200,7 @@ module _ (w : ℕ) (ws : List ℕ) (k : ℕ) (e : whiteAt w ws ≡ some k) where
   no-middle a c =
       rw (other 0x9a (omega arith) (omega arith), other 0x80 (omega arith) (omega arith), other 0x81 (omega arith) (omega arith), and-false (eqb a 0xe1), and-false (eqb a 0xe2), and-false (eqb a 0xe3))
 
-  no-third : (a b : ℕ) → white3 a b w ≡ false
+  pub no-third : (a b : ℕ) → white3 a b w ≡ false
   unfolding white3 in2000
   no-third a b =
       rw (
@@ -219,15 +216,20 @@ module _ (w : ℕ) (ws : List ℕ) (k : ℕ) (e : whiteAt w ws ≡ some k) where
         and-false (eqb a 0xe3 && eqb b 0x80),
       )
 
+-- so no byte of a white space character behind the first begins another
+module _ (w : ℕ) (ws : List ℕ) (k : ℕ) (e : whiteAt w ws ≡ some k) where
+  pub white-first : 0x80 ≤ w → w < 0xc0 → ⊥
+  white-first h l = let z : none ≡ some k = sym (first-none w ws (omega arith) l) ∙ e in let q : _≡_ {A = ℕ} 0 1 = cc in omega arith
+
   -- a character behind a text takes no part in the characters before it
   pub white-apart : (a : ℕ) (s : List ℕ) → whiteAt a (s ++ w ∷ ws) ≡ whiteAt a s
   unfolding whiteAt if_then_else_
   white-apart a [] = go ws
     where
       go : (t : List ℕ) → whiteAt a (w ∷ t) ≡ whiteAt a []
-      go [] = rw (no-second a)
-      go (c ∷ t) = rw (no-second a, no-middle a c)
-  white-apart a (b ∷ []) = rw (no-third a b)
+      go [] = rw (no-second w white-first a)
+      go (c ∷ t) = rw (no-second w white-first a, no-middle w white-first a c)
+  white-apart a (b ∷ []) = rw (no-third w white-first a b)
   white-apart a (b ∷ c ∷ s) = refl
 
 pub from-full : (s : List ℕ) → leadingFrom (length s) s ≡ length s

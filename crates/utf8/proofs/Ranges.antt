@@ -1,5 +1,5 @@
 -- Whether a number lies in a range, by its place; and laws of tests. Assumes nothing.
-use mathlib.Core.Path.{_≡_, refl}
+use mathlib.Core.Path.{_≡_, refl, sym}
 use mathlib.Core.Bool.{Bool, true, false, _&&_, _||_, false≢true}
 use Prim.Native.Nat.{ℕ, _≤_, _<_}
 use lib.Dec.{leb}
@@ -21,6 +21,10 @@ if-both false b e = absurd (false≢true e)
 pub if-one : (a b : Bool) {X : Type 0} → a || b ≡ true → (a ≡ true → X) → (b ≡ true → X) → X
 if-one true b e f g = f refl
 if-one false b e f g = g e
+
+pub neither : (a b : Bool) → a || b ≡ false → (a ≡ false) × (b ≡ false)
+neither false b e = (refl, e)
+neither true b e = absurd (false≢true (sym e))
 
 pub inside : (r : Range) (b : ℕ) → r .low ≤ b → b ≤ r .high → within r b ≡ true
 unfolding within

@@ -1,8 +1,8 @@
 -- What white_at, trim_start and trim_end find at a place of the text, one law for each of their answers. Assumes nothing.
 use mathlib.Core.Path.{_≡_, sym, ap, _∙_}
 use mathlib.Core.List.{List, [], _∷_}
-use mathlib.Core.Bool.{true, false}
-use mathlib.Core.Option.{none}
+use mathlib.Core.Bool.{Bool, true, false, false≢true}
+use mathlib.Core.Option.{some, none}
 use Prim.Native.Nat.{ℕ, zero, suc, _+_, _-_, _≤_, _<_}
 use native.Mathlib.Omega.{arith}
 use lib.ListN.{length, getD}
@@ -10,7 +10,7 @@ use Rattle.refusal.specs.Base.{if_then_else_, maybe}
 use Rattle.utf8.specs.White.{white1, white2, white3, whiteAt, whiteLen, leading, trimEnd}
 use Rattle.utf8.specs.Part.{part}
 use Rattle.utf8.specs.Contract.{Ends}
-use Rattle.utf8.proofs.Laws.{part-empty, part-cons, part-length, part-drop, part-append, white-most, leading-none, leading-on, end-white, end-none}
+use Rattle.utf8.proofs.Laws.{part-empty, part-cons, part-length, part-drop, part-append, white-most, leading-none, leading-on, first-none, no-second, no-third, end-white, end-none}
 
 module _ (s : List ℕ) (at to : ℕ) (k : to ≤ length s) where
   one-more : at < to → part s at to ≡ getD s at 0 ∷ part s (at + 1) to
@@ -115,3 +115,40 @@ module _ (s : List ℕ) (from to : ℕ) where
       go (suc (suc zero)) p q = g
       go (suc (suc (suc zero))) p q = h
       go (suc (suc (suc (suc n)))) p q = absurd (omega arith)
+
+-- a byte from 21 to 7F neither begins a white space character nor ends one
+module _ (s : List ℕ) (to : ℕ) (k : to ≤ length s) where
+  pub visible-first : (at : ℕ) → at < to → 0x20 < getD s at 0 → getD s at 0 < 0x80 → whiteLen (part s at to) ≡ 0
+  unfolding whiteLen maybe
+  visible-first at h l m = rw (part-cons s at to h k, first-none (getD s at 0) (part s (at + 1) to) l (omega arith))
+
+  visible-second : (at : ℕ) → at + 2 ≡ to → getD s (at + 1) 0 < 0x80 → whiteLen (part s at to) ≡ 2 → ⊥
+  unfolding whiteLen whiteAt maybe if_then_else_
+  visible-second at h m e =
+      let p : part s at to ≡ getD s at 0 ∷ getD s (at + 1) 0 ∷ [] = two-more s at to k (omega arith) ∙ rw h (ap (λ (t : List ℕ). getD s at 0 ∷ getD s (at + 1) 0 ∷ t) (part-empty s to)) in
+      go (white1 (getD s at 0)) (white2 (getD s at 0) (getD s (at + 1) 0)) (no-second (getD s (at + 1) 0) (λ x y. omega arith) (getD s at 0)) (sym (ap whiteLen p) ∙ e)
+    where
+      go : (x y : Bool) → y ≡ false → maybe (if x then some 0 else if y then some 1 else none) 0 suc ≡ 2 → ⊥
+      go true y q r = omega arith
+      go false true q r = false≢true (sym q)
+      go false false q r = omega arith
+
+  visible-third : (at : ℕ) → at + 3 ≡ to → getD s (at + 2) 0 < 0x80 → whiteLen (part s at to) ≡ 3 → ⊥
+  unfolding whiteLen whiteAt maybe if_then_else_
+  visible-third at h m e =
+      let a : ℕ = getD s at 0 in
+      let b : ℕ = getD s (at + 1) 0 in
+      let c : ℕ = getD s (at + 2) 0 in
+      go (white1 a) (white2 a b) (white3 a b c) (no-third c (λ x y. omega arith) a b) (sym (ap whiteLen (three-more s at to k (omega arith))) ∙ e)
+    where
+      go : (x y z : Bool) → z ≡ false → maybe (if x then some 0 else if y then some 1 else if z then some 2 else none) 0 suc ≡ 3 → ⊥
+      go true y z q r = omega arith
+      go false true z q r = omega arith
+      go false false true q r = false≢true (sym q)
+      go false false false q r = omega arith
+
+  pub visible-last : (from : ℕ) → from < to → 0x20 < getD s (to - 1) 0 → getD s (to - 1) 0 < 0x80 → Ends s from to 0
+  visible-last from h l m =
+      ends-none s from to (λ p e. omega (arith, visible-first (to - 1) (omega arith) l m))
+      (λ p. visible-second (to - 2) (omega arith) (let z : to - 2 + 1 ≡ to - 1 = omega arith in rw z m))
+      (λ p. visible-third (to - 3) (omega arith) (let z : to - 3 + 2 ≡ to - 1 = omega arith in rw z m))

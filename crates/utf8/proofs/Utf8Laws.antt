@@ -5,6 +5,7 @@ use mathlib.Core.Bool.{Bool, true, false, _&&_, _||_, false≢true}
 use mathlib.Core.Option.{Option, none, some}
 use Prim.Native.Nat.{ℕ, zero, suc, _+_, _-_, _≤_, _<_}
 use native.Mathlib.Omega.{arith}
+use native.Mathlib.Numerals.{add-one}
 use lib.Dec.{leb, ltb, eqb}
 use lib.ListN.{length, getD, take, drop, replicate, length-drop, drop-of-length-le}
 use lib.Seq.{drop-cons, getD-drop, take-all, split-at}
@@ -42,6 +43,13 @@ utf8-nil = refl
 pub utf8-ascii : (b : ℕ) (s : List ℕ) → b < 0x80 → isUtf8 (b ∷ s) ≡ isUtf8 s
 unfolding isUtf8 utf8From maybe tailsOf table behindIn if_then_else_
 utf8-ascii b s h = rw (inside (0x00 ‥ 0x7f) b (omega arith) (omega arith))
+
+-- a turn of the loop over ASCII, and its end
+pub ascii-turned : (s : List ℕ) (at : ℕ) → at < length s → getD s at 0 < 0x80 → isUtf8 (drop at s) ≡ isUtf8 (drop (at + 1) s)
+ascii-turned s at h k = rw (add-one, drop-cons s at 0) (utf8-ascii (getD s at 0) (drop (suc at) s) k)
+
+pub ascii-ended : (s : List ℕ) (at : ℕ) → length s ≤ at → isUtf8 (drop at s) ≡ true
+ascii-ended s at h = rw (drop-of-length-le s h) utf8-nil
 
 -- cut
 

@@ -1,6 +1,7 @@
 // UTF-8 as RFC 3629 has it, and white space as document 01 has it. A text is any bytes, and a part of one runs from a place
 // up to another.
 ghost use mathlib.Core.Path.{_≡_};
+ghost use mathlib.Core.Bool.{true};
 ghost use mathlib.Core.List.{[]};
 ghost use Prim.Native.Nat.{_+_, _≤_, _<_};
 ghost use lib.ListN.{length};
@@ -85,10 +86,26 @@ fn next(d: Due, b: u8) -> After
     on(d.left - 1, 0x80, 0xbf)
 }
 
-// Whether a text is UTF-8, in one pass.
+// Whether every byte is ASCII: with no way out of the loop, many are looked at together.
+fn is_ascii(text: &[u8]) -> bool
+    ensures { λ r. ⌜ (r ≡ true → isUtf8 (now (text .entry)) ≡ true) ⌝ }
+{
+    let mut high = false;
+    let mut at = 0;
+    while at < text.len() {
+        high = high | (text[at] >= 0x80);
+        at += 1;
+    }
+    !high
+}
+
+// Whether a text is UTF-8. Most are ASCII, and the others are read byte by byte.
 pub fn is_utf8(text: &[u8]) -> bool
     ensures { λ r. ⌜ r ≡ isUtf8 (now (text .entry)) ⌝ }
 {
+    if is_ascii(text) {
+        return true;
+    }
     let mut d = Due {
         left: 0,
         low: 0x80,
@@ -103,6 +120,16 @@ pub fn is_utf8(text: &[u8]) -> bool
         at += 1;
     }
     d.left == 0
+}
+
+// Bytes that neither begin a white space character nor end one: most that are looked at for one.
+fn visible(b: u8) -> bool
+    ensures { λ r. ⌜ (r ≡ true → (0x20 < b) × (b < 0x80)) ⌝ }
+{
+    if b <= 0x20 {
+        return false;
+    }
+    b < 0x80
 }
 
 // White space characters of one byte, of two and of three.
@@ -238,13 +265,17 @@ pub fn trim_start(s: &[u8], from: usize, to: usize) -> usize
     ensures within { λ r. ⌜ (from ≤ r) × (r ≤ to) ⌝ }
 {
     let mut at = from;
-    loop {
+    while at < to {
+        if visible(s[at]) {
+            break;
+        }
         let n = white_at(s, at, to);
         if n == 0 {
-            return at;
+            break;
         }
         at += n;
     }
+    at
 }
 
 // Where a part ends without the white space at its end. It goes back from `to`, so that a long part costs only what is trimmed.
@@ -254,13 +285,17 @@ pub fn trim_end(s: &[u8], from: usize, to: usize) -> usize
     ensures within { λ r. ⌜ (from ≤ r) × (r ≤ to) ⌝ }
 {
     let mut end = to;
-    loop {
+    while end > from {
+        if visible(s[end - 1]) {
+            break;
+        }
         let n = white_before(s, from, end);
         if n == 0 {
-            return end;
+            break;
         }
         end -= n;
     }
+    end
 }
 
 // A text without the white space at both ends.

@@ -1,9 +1,9 @@
 -- A turn of each loop: what is left to be read decides as all of it does. Assumes nothing.
 use mathlib.Core.Path.{_≡_, refl, sym, ap, _∙_}
-use Prim.Native.Nat.{ℕ, zero, suc, _-_, _≤_, _<_}
+use Prim.Native.Nat.{ℕ, zero, suc, _+_, _-_, _≤_, _<_}
 use native.Mathlib.Omega.{arith}
 use mathlib.Core.List.{List, [], _∷_}
-use mathlib.Core.Bool.{Bool, true, false, _&&_, not}
+use mathlib.Core.Bool.{Bool, true, false, _&&_, _||_, not, false≢true}
 use mathlib.Core.Option.{Option, none, some, Option·none-ne-some, Option·some-injective}
 use lib.ListN.{length, take, drop, drop-of-length-le, length-take, length-drop}
 use lib.Seq.{take-all}
@@ -11,13 +11,17 @@ use borrow.Author.Tests.{ne-eqb}
 use Rattle.refusal.specs.Base.{if_then_else_, maybe}
 use Rattle.refusal.proofs.Tools.{chosen}
 use Rattle.utf8.specs.Utf8.{isUtf8}
-use Rattle.item.specs.Tree.{Yaml, Items, Entries, _▸_, pair, hasKey}
+use Rattle.item.specs.Tree.{Yaml, Items, Entries, _▸_, done, pair, hasKey}
 use Rattle.item.specs.Encode.{encode, Bytes}
 use Rattle.item.specs.Decode.{_>>=_, header, unkey, decodeItems, decodeEntries, decode}
 use Rattle.item.proofs.Exact.{got, none≢, entries-inv, decode-exact}
 use Rattle.meaning.specs.Sound.{sound}
 use Rattle.value.specs.Tree.{tree, acceptsItems, acceptsEntries}
-use Rattle.value.specs.Walks.{ReadAt, entriesIn, Onward}
+use Rattle.entries.specs.Entries.{Lies, keyTwice}
+use Rattle.entries.proofs.Walking.{lies-between}
+use Rattle.value.specs.Walks.{ReadAt, Walks, eachSound, entriesIn, Onward, EntryFollows}
+use Rattle.value.specs.declared.End.{End}
+use Rattle.value.specs.declared.End.the-variants.{At, Nowhere}
 
 -- ---- parts
 
@@ -144,74 +148,99 @@ module _ (l : ℕ) (bs : List ℕ) (long : 0 < length bs) (t : ℕ) where
       behind : Yaml × List ℕ → Option Entries
       behind x = decodeEntries (λ r. decode l r) t (x .1) >>= λ es. some (pair k (x .0) es)
 
-      opened : entriesIn l (suc t) bs ≡ maybe (decode l r >>= behind) false sound
+      opened : entriesIn l (suc t) bs ≡ maybe (decode l r >>= behind) false eachSound
       unfolding entriesIn behind _>>=_
       opened = rw (entries-step l t bs long, keyed)
 
       pub key-not-utf8 : isUtf8 k ≡ false → entriesIn l (suc t) bs ≡ false
-      unfolding maybe _>>=_ behind sound
+      unfolding maybe _>>=_ behind eachSound
       key-not-utf8 h = opened ∙ go (decode l r)
         where
-          last : (x : Yaml × List ℕ) (o : Option Entries) → maybe (o >>= λ es. some (pair k (x .0) es)) false sound ≡ false
+          last : (x : Yaml × List ℕ) (o : Option Entries) → maybe (o >>= λ es. some (pair k (x .0) es)) false eachSound ≡ false
           last x none = refl
           last x (some es) = rw h
 
-          go : (o : Option (Yaml × List ℕ)) → maybe (o >>= behind) false sound ≡ false
+          go : (o : Option (Yaml × List ℕ)) → maybe (o >>= behind) false eachSound ≡ false
           go none = refl
           go (some x) = last x (decodeEntries (λ r. decode l r) t (x .1))
 
       pub value-refused : tree l r ≡ none → entriesIn l (suc t) bs ≡ false
-      unfolding maybe _>>=_ behind sound
-      value-refused h = opened ∙ left-out l r behind sound h λ x q. last x q (isUtf8 k) (decodeEntries (λ r. decode l r) t (x .1))
+      unfolding maybe _>>=_ behind eachSound
+      value-refused h = opened ∙ left-out l r behind eachSound h λ x q. last x q (decodeEntries (λ r. decode l r) t (x .1))
         where
-          last : (x : Yaml × List ℕ) → sound (x .0) ≡ false → (u : Bool) (o : Option Entries) → maybe (o >>= λ es. some (pair k (x .0) es)) false sound ≡ false
-          last x q u none = refl
-          last x q u (some es) = rw q (go (isUtf8 k) (not (hasKey k es)))
+          last : (x : Yaml × List ℕ) → sound (x .0) ≡ false → (o : Option Entries) → maybe (o >>= λ es. some (pair k (x .0) es)) false eachSound ≡ false
+          last x q none = refl
+          last x q (some es) = rw q (go (isUtf8 k))
             where
-              go : (a b : Bool) → (a && (b && false)) ≡ false
-              go true true = refl
-              go true false = refl
-              go false b = refl
+              go : (a : Bool) → (a && false) ≡ false
+              go true = refl
+              go false = refl
 
-      module _ (y : Yaml) (rest : List ℕ) (v : tree l r ≡ some (y, rest)) where
-        valued : entriesIn l (suc t) bs ≡ maybe (decodeEntries (λ r. decode l r) t rest >>= λ es. some (pair k y es)) false sound
-        unfolding behind _>>=_
-        valued = opened ∙ rw (taken l r y rest v .is)
+      pub value-taken : (y : Yaml) (rest : List ℕ) → tree l r ≡ some (y, rest) → isUtf8 k ≡ true → entriesIn l (suc t) bs ≡ entriesIn l t rest
+      unfolding maybe _>>=_ behind eachSound entriesIn
+      value-taken y rest v u = opened ∙ rw (taken l r y rest v .is) (go (decodeEntries (λ r. decode l r) t rest))
+        where
+          go : (o : Option Entries) → maybe (o >>= λ es. some (pair k y es)) false eachSound ≡ maybe o false eachSound
+          go none = refl
+          go (some es) = rw (u, taken l r y rest v .kept)
 
-        -- what the search for the key may tell: of entries that stand there
-        pub key-again : Bytes rest → ((es : Entries) → rest ≡ encode es → hasKey k es ≡ true) → entriesIn l (suc t) bs ≡ false
-        unfolding maybe _>>=_ sound
-        key-again b h = valued ∙ go (decodeEntries (λ r. decode l r) t rest) refl
-          where
-            go : (o : Option Entries) → decodeEntries (λ r. decode l r) t rest ≡ o → maybe (o >>= λ es. some (pair k y es)) false sound ≡ false
-            go none p = refl
-            go (some es) p = rw (h es (entries-inv (λ r. decode l r) (decode-exact l) t rest es b p)) (last (isUtf8 k))
-              where
-                last : (a : Bool) → (a && false) ≡ false
-                last true = refl
-                last false = refl
+-- an entry is as good as its value, where its key is
+pub entry-follows : (l : ℕ) (s : List ℕ) (at kind to : ℕ) (k : List ℕ) → 0 < length (drop at s) → at + 6 ≤ to → header (drop at s) ≡ some (kind, k, drop to s) → kind ≡ 3 → isUtf8 k ≡ true
+    → (r : End) → Walks (tree l) s to r → EntryFollows l s at r
+entry-follows l s at kind to k long on e three u (At next) w = record {
+  is = λ turns. value-taken l (drop at s) long turns kind k (drop to s) e three (w .value) (drop next s) (w .is) u;
+  forward = omega (arith, w .forward);
+  fits = w .fits;
+}
+entry-follows l s at kind to k long on e three u Nowhere w = λ turns. value-refused l (drop at s) long turns kind k (drop to s) e three w
 
-        pub key-new : Bytes rest → isUtf8 k ≡ true → ((es : Entries) → rest ≡ encode es → hasKey k es ≡ false) → entriesIn l (suc t) bs ≡ entriesIn l t rest
-        unfolding maybe _>>=_ sound entriesIn
-        key-new b u h = valued ∙ go (decodeEntries (λ r. decode l r) t rest) refl
-          where
-            go : (o : Option Entries) → decodeEntries (λ r. decode l r) t rest ≡ o → maybe (o >>= λ es. some (pair k y es)) false sound ≡ maybe o false sound
-            go none p = refl
-            go (some es) p = rw (h es (entries-inv (λ r. decode l r) (decode-exact l) t rest es b p), u, taken l r y rest v .kept)
+-- sound entries: each by itself, and no key twice
+sound-each : (es : Entries) → sound es ≡ eachSound es && not (keyTwice es)
+unfolding sound eachSound keyTwice
+sound-each done = refl
+sound-each (pair k v es) = rw (sound-each es) (go (isUtf8 k) (hasKey k es) (sound v) (eachSound es) (keyTwice es))
+  where
+    go : (a b c d e : Bool) → (a && (not b && (c && (d && not e)))) ≡ ((a && (c && d)) && not (b || e))
+    go false b c d e = refl
+    go true true false d e = refl
+    go true true true false e = refl
+    go true true true true e = refl
+    go true false false d e = refl
+    go true false true false e = refl
+    go true false true true e = refl
+
+module _ (l : ℕ) (s : List ℕ) where
+  pub each-refused : false ≡ entriesIn l (length s) s → false ≡ acceptsEntries l s
+  unfolding entriesIn acceptsEntries maybe
+  each-refused h = go (decodeEntries (λ r. decode l r) (length s) s) h
+    where
+      go : (o : Option Entries) → false ≡ maybe o false eachSound → false ≡ maybe o false sound
+      go none e = refl
+      go (some es) e = sym (sound-each es ∙ rw (sym e))
+
+  pub each-taken : Bytes s → true ≡ entriesIn l (length s) s → (b : Bool) → ((es : Entries) → Lies s 0 (length s) es → b ≡ keyTwice es) → not b ≡ acceptsEntries l s
+  unfolding entriesIn acceptsEntries maybe
+  each-taken bytes h b twice = go (decodeEntries (λ r. decode l r) (length s) s) refl h
+    where
+      go : (o : Option Entries) → decodeEntries (λ r. decode l r) (length s) s ≡ o → true ≡ maybe o false eachSound → not b ≡ maybe o false sound
+      go none p e = absurd (false≢true (sym e))
+      go (some es) p e =
+          let is : s ≡ encode es = entries-inv (λ r. decode l r) (decode-exact l) (length s) s es bytes p in
+          let lies : Lies s 0 (length s) es = lies-between s 0 (length s) es (omega arith) (omega arith) (whole-rest s 0 ∙ is) in
+          sym (sound-each es ∙ rw (sym e) (ap not (sym (twice es lies))))
 
 -- where a loop over entries stands
 pub record Entries-left (l : ℕ) (s : List ℕ) (at : ℕ) : Type 0 where
   pub turns : ℕ
   pub enough : length s - at ≤ turns
-  pub whole : acceptsEntries l s ≡ entriesIn l turns (drop at s)
+  pub whole : entriesIn l (length s) s ≡ entriesIn l turns (drop at s)
 
 pub entries-start : (l : ℕ) (s : List ℕ) → Entries-left l s 0
-unfolding acceptsEntries entriesIn
 entries-start l s = record { turns = length s; enough = omega arith; whole = refl }
 
 module _ {l : ℕ} {s : List ℕ} {at : ℕ} (w : Entries-left l s at) where
-  pub entries-end : length s ≤ at → true ≡ acceptsEntries l s
-  unfolding entriesIn decodeEntries maybe sound
+  pub entries-end : length s ≤ at → true ≡ entriesIn l (length s) s
+  unfolding entriesIn decodeEntries maybe eachSound
   entries-end h = sym (w .whole ∙ rw (drop-of-length-le s {i = at} h) (go (w .turns)))
     where
       go : (t : ℕ) → entriesIn l t [] ≡ true
@@ -221,13 +250,13 @@ module _ {l : ℕ} {s : List ℕ} {at : ℕ} (w : Entries-left l s at) where
   pub entries-next : {to : ℕ} → at < length s → Onward l s at to → Entries-left l s to
   entries-next {to} h r = go (w .turns) (w .enough) (w .whole)
     where
-      go : (t : ℕ) → length s - at ≤ t → acceptsEntries l s ≡ entriesIn l t (drop at s) → Entries-left l s to
+      go : (t : ℕ) → length s - at ≤ t → entriesIn l (length s) s ≡ entriesIn l t (drop at s) → Entries-left l s to
       go zero m e = absurd (omega arith)
       go (suc t) m e = record { turns = t; enough = omega (arith, r .forward); whole = e ∙ r .is t }
 
   pub entries-fail : at < length s → ((t : ℕ) → entriesIn l (suc t) (drop at s) ≡ false) → false ≡ acceptsEntries l s
-  entries-fail h r = go (w .turns) (w .enough) (w .whole)
+  entries-fail h r = each-refused l s (go (w .turns) (w .enough) (w .whole))
     where
-      go : (t : ℕ) → length s - at ≤ t → acceptsEntries l s ≡ entriesIn l t (drop at s) → false ≡ acceptsEntries l s
+      go : (t : ℕ) → length s - at ≤ t → entriesIn l (length s) s ≡ entriesIn l t (drop at s) → false ≡ entriesIn l (length s) s
       go zero m e = absurd (omega arith)
       go (suc t) m e = sym (e ∙ r t)

@@ -5,7 +5,7 @@ ghost use Prim.Native.Nat.{_≤_, _<_, _^_};
 ghost use lib.ListN.{length};
 ghost use Rattle.value.specs.Tree.{tree, accepts, acceptsItems, acceptsEntries};
 ghost use Rattle.value.specs.Walks.{Walks, EntryFollows};
-use entries::has_key;
+use entries::repeats;
 use item::Header;
 use item::header_at;
 use utf8::is_utf8;
@@ -56,7 +56,7 @@ fn items(s: &[u8], levels: usize) -> bool
     true
 }
 
-// An entry: its key, its value, and no later entry with that key.
+// An entry: its key and its value. Whether a key stands twice is judged once, when all entries are read.
 fn entry(s: &[u8], at: usize, levels: usize) -> End
     requires { ⌜ (at < length (now s)) × (length (now s) ≤ 2 ^ 20) ⌝ }
     ensures { λ r. ⌜ EntryFollows levels (now (s .entry)) at r ⌝ }
@@ -71,15 +71,7 @@ fn entry(s: &[u8], at: usize, levels: usize) -> End
     if !is_utf8(&s[from..to]) {
         return End::Nowhere;
     }
-    let end = value_at(s, to, levels);
-    let End::At(next) = end else {
-        return End::Nowhere;
-    };
-    // What stands behind need not be entries yet; where it is none, the mapping is refused there.
-    if has_key(s, next, s.len(), from, to) {
-        return End::Nowhere;
-    }
-    End::At(next)
+    value_at(s, to, levels)
 }
 
 fn entries(s: &[u8], levels: usize) -> bool
@@ -94,7 +86,7 @@ fn entries(s: &[u8], levels: usize) -> bool
         };
         at = next;
     }
-    true
+    !repeats(s, 0, s.len())
 }
 
 // Whether this is the content of a value of this kind.

@@ -6,61 +6,67 @@ use Rattle.refusal.specs.Base.{bytes}
 use Rattle.item.specs.Tree.{get}
 use Rattle.meaning.specs.Meanings.{commands}
 use Rattle.step.specs.Contract.{AgreesExpect, AgreesCommand, CommandInside}
+use Rattle.step.proofs.Commands.{not-one}
 use Rattle.step.proofs.Steps.{step-33, step-34, step-35, step-read}
 use Rattle.step.proofs.read_entries.Statement.{statement}
 use Rattle.step.proofs.read_entries.Tie as tie
 
 returns : tie.Need-returns
-unfolding bytes
-returns c = (tt, λ es h. step-33 _ _ es (subst (AgreesExpect (get (bytes "expect") es)) (not-true (c .before .expect-fits .result) (c .if1 .taken)) (c .before .expect-fits .ensures _ (c .before .before .find .ensures .1 es h))))
+returns c = (
+  tt,
+  λ es h.
+      let x = c .before .expect-fits in
+      step-33 _ _ es (subst (AgreesExpect (get (bytes "expect") es)) (not-true (x .result) (c .if1 .taken)) (x .ensures _ (c .before .before .fields-in .ensures .1 es h .expect))),
+)
 
 returns-2 : tie.Need-returns-2
-unfolding bytes
 returns-2 c = (
   tt,
   λ es h.
-      let x = subst (AgreesExpect (get (bytes "expect") es)) (not-false (c .before .before .before .before .expect-fits .result) (c .before .before .before .if1 .left)) (c .before .before .before .before .expect-fits .ensures _ (c .before .before .before .before .before .find .ensures .1 es h)) in
-      step-34 _ _ es x (subst (AgreesCommand _ (commands es)) (c .enum-told .given .1) (c .before .before .command-in .ensures .1 es h) _),
+      let x = c .before .before .expect-fits in
+      let f = c .before .before .before .fields-in in
+      let a = f .ensures .1 es h in
+      step-34 _ _ es (subst (AgreesExpect (get (bytes "expect") es)) (not-false (x .result) (c .before .if1 .left)) (x .ensures _ (a .expect))) (not-one _ (commands es) (f .result .command) (c .match .keys2) (a .command) _),
 )
 
 expect-allowed-requires : tie.Need-expect-allowed-requires
-expect-allowed-requires c κs = subst (CommandInside _) (c .before .command .given .1) (c .before .before .before .command-in .ensures .0)
+expect-allowed-requires c κs = subst (CommandInside _) (c .before .command .given .1) (c .before .before .before .before .before .fields-in .ensures .0 .command)
 
 returns-3 : tie.Need-returns-3
-unfolding bytes
-returns-3 c =
-    let d = c .before in (
-      tt,
-      λ es h.
-          let f = d .before .before .before .before .before .before .before .find .ensures .1 es h in
-          let x = subst (AgreesExpect (get (bytes "expect") es)) (not-false (d .before .before .before .before .before .before .expect-fits .result) (d .before .before .before .before .before .if1 .left)) (d .before .before .before .before .before .before .expect-fits .ensures _ f) in
-          let o = subst (AgreesCommand _ (commands es)) (d .before .before .command .given .1) (d .before .before .before .before .command-in .ensures .1 es h) in
-          step-35 _ _ es x o (d .before .before .before .before .before .before .before .find .result) f (d .expect-allowed .result) (d .expect-allowed .ensures) (not-true _ (c .if2 .taken)),
-    )
+returns-3 c = (
+  tt,
+  λ es h.
+      let x = c .before .before .before .before .before .before .expect-fits in
+      let f = c .before .before .before .before .before .before .before .fields-in in
+      let a = f .ensures .1 es h in
+      let e = subst (AgreesExpect (get (bytes "expect") es)) (not-false (x .result) (c .before .before .before .before .before .if1 .left)) (x .ensures _ (a .expect)) in
+      let o = subst (AgreesCommand _ (commands es)) (c .before .before .before .command .given .1) (a .command) in
+      step-35 _ _ es e o (f .result .expect) (a .expect) (c .before .expect-allowed .result) (c .before .expect-allowed .ensures) (not-true _ (c .if2 .taken)),
+)
 
 returns-4 : tie.Need-returns-4
-unfolding bytes
 returns-4 c =
-    let d = c .before .before .before .before .before .before .before .before .before in
-    let i = subst (CommandInside _) (d .before .before .command .given .1) (d .before .before .before .before .command-in .ensures .0) in (
-      record {
-        name = c .before .before .before .before .before .before .find2 .ensures .0;
-        id = c .before .before .before .before .find3 .ensures .0;
-        key = i .0;
-        value = i .1;
-        timeout = c .before .before .find4 .ensures .0;
-        continue = c .find5 .ensures .0;
-        expect = d .before .before .before .before .before .before .before .find .ensures .0;
-      },
+    let f = c .before .before .before .before .before .before .before .fields-in in
+    let n = f .ensures .0 in
+    let i = subst (CommandInside _) (c .before .before .before .command .given .1) (n .command) in (
+      record { name = n .name; id = n .id; key = i .0; value = i .1; timeout = n .timeout; continue = n .continue; expect = n .expect },
       λ es h.
-          let f = d .before .before .before .before .before .before .before .find .ensures .1 es h in
-          let x = subst (AgreesExpect (get (bytes "expect") es)) (not-false (d .before .before .before .before .before .before .expect-fits .result) (d .before .before .before .before .before .if1 .left)) (d .before .before .before .before .before .before .expect-fits .ensures _ f) in
-          let o = subst (AgreesCommand _ (commands es)) (d .before .before .command .given .1) (d .before .before .before .before .command-in .ensures .1 es h) in
-          step-read _ _ es x o (d .before .before .before .before .before .before .before .find .result) f (d .expect-allowed .result) (d .expect-allowed .ensures) (not-false _ (c .before .before .before .before .before .before .before .before .if2 .left))
-          (c .before .before .before .before .before .before .find2 .ensures .1 es h) (c .before .before .before .before .find3 .ensures .1 es h) (c .before .before .find4 .ensures .1 es h) (c .find5 .ensures .1 es h),
+          let x = c .before .before .before .before .before .before .expect-fits in
+          let a = f .ensures .1 es h in
+          let e = subst (AgreesExpect (get (bytes "expect") es)) (not-false (x .result) (c .before .before .before .before .before .if1 .left)) (x .ensures _ (a .expect)) in
+          let o = subst (AgreesCommand _ (commands es)) (c .before .before .before .command .given .1) (a .command) in
+          step-read _ _ es e o (f .result .expect) (a .expect) (c .before .expect-allowed .result) (c .before .expect-allowed .ensures) (not-false _ (c .if2 .left)) (a .name) (a .id) (a .timeout) (a .continue),
     )
 
 pub read-entries-spec : {M : Type 1} → statement M
-read-entries-spec = tie.close (tie.spec (λ c. search needs) (λ c κs. search needs) (λ c κs. search needs) returns (λ c κs. search needs) (λ c. search needs)
-    (λ c. search needs) returns-2 expect-allowed-requires returns-3 (λ c. search needs) (λ c κs. search needs) (λ c. search needs) (λ c κs. search needs)
-    (λ c. search needs) (λ c κs. search needs) (λ c. search needs) (λ c κs. search needs) returns-4)
+read-entries-spec =
+    tie.close
+    (tie.spec
+    (λ c κs. search needs)
+    (λ c κs. search needs)
+    returns
+    (λ c. search needs)
+    returns-2
+    expect-allowed-requires
+    returns-3
+    returns-4)

@@ -18,7 +18,7 @@ use Rattle.value.proofs.value_at.Reads as value-at′
 use Rattle.value.proofs.value_at.Kinds as value-at-kinds
 use Rattle.value.proofs.+entries+entry+items+value+value_at.Lts-value_at as value-at-lts
 use Rattle.item.proofs.header_at.Reads as header-at-reads
-use Rattle.entries.proofs.has_key.Reads as has-key-reads
+use Rattle.entries.proofs.repeats.Reads as repeats-reads
 use Rattle.utf8.proofs.is_utf8.Reads as is-utf8-reads
 use Rattle.value.proofs.scalar.Reads as scalar-reads
 use Rattle.value.proofs.+entries+entry+items+value+value_at.{statement}
@@ -31,15 +31,14 @@ use mathlib.Core.Option.{some}
 use lib.ListN.{length, drop, length-drop, take}
 use borrow.Author.Tests.{not-true, not-false}
 use Rattle.item.specs.Decode.{header}
-use Rattle.item.proofs.Exact.{bytes-drop}
 use Rattle.item.specs.Encode.{Bytes}
 use Rattle.item.specs.Places.{headerAt}
 use Rattle.item.specs.declared.Header.the-variants.{Item}
 use Rattle.item.proofs.Headers.{spans, Spans, header-item, no-header as no-item-there}
 use Rattle.value.specs.Tree.{tree, accepts}
-use Rattle.value.specs.Walks.{Walks, EntryFollows, ReadAt}
+use Rattle.value.specs.Walks.{Walks, EntryFollows}
 use Rattle.value.proofs.Contents.{bytes-of, sequence-content, mapping-content, too-deep, no-kind, no-header, content-refused, content-taken}
-use Rattle.value.proofs.Invariants.{Items-left, items-start, items-end, items-next, items-fail, Entries-left, entries-start, entries-end, entries-next, entries-fail, no-key, other-kind, key-not-utf8, value-refused, key-again, key-new, whole-rest, part-small}
+use Rattle.value.proofs.Invariants.{Items-left, items-start, items-end, items-next, items-fail, Entries-left, entries-start, entries-end, entries-next, entries-fail, each-taken, no-key, other-kind, key-not-utf8, entry-follows, part-small}
 
 abbrev μ-entries : Measures 1 entries-kinds.ps ℕ
 μ-entries κs a = 4 * a .1 .0 + 3
@@ -96,7 +95,7 @@ entries-μ-loop s levels at₀ at = length s - at
 entries-loop-holds :
     (t : ℕ) →
     entries-lts.Need-loop-holds
-    (entry-below t, entry.Post)
+    (entry-below t, entry.Post, repeats-reads.Asked, repeats-reads.Learnt)
     (entries-at t)
     entries.Post
     entries-Inv-loop
@@ -106,7 +105,7 @@ entries-loop-holds t c = let a = (c .before .args) in (omega arith, entries-star
 entries-returns :
     (t : ℕ) →
     entries-lts.Need-returns
-    (entry-below t, entry.Post)
+    (entry-below t, entry.Post, repeats-reads.Asked, repeats-reads.Learnt)
     (entries-at t)
     entries.Post
     entries-Inv-loop
@@ -118,7 +117,7 @@ entries-returns t c = entries-fail ((c .before .before .before .before .loop .in
 entries-loop-less :
     (t : ℕ) →
     entries-lts.Need-loop-less
-    (entry-below t, entry.Post)
+    (entry-below t, entry.Post, repeats-reads.Asked, repeats-reads.Learnt)
     (entries-at t)
     entries.Post
     entries-Inv-loop
@@ -130,7 +129,7 @@ entries-loop-less t c = let w = subst (EntryFollows ((c .before .before .before 
 entries-loop-again :
     (t : ℕ) →
     entries-lts.Need-loop-again
-    (entry-below t, entry.Post)
+    (entry-below t, entry.Post, repeats-reads.Asked, repeats-reads.Learnt)
     (entries-at t)
     entries.Post
     entries-Inv-loop
@@ -146,20 +145,19 @@ entries-loop-again t c = let w = subst (EntryFollows ((c .before .before .before
 entries-returns-2 :
     (t : ℕ) →
     entries-lts.Need-returns-2
-    (entry-below t, entry.Post)
+    (entry-below t, entry.Post, repeats-reads.Asked, repeats-reads.Learnt)
     (entries-at t)
     entries.Post
     entries-Inv-loop
     entries-μ-loop
-entries-returns-2 t c = entries-end ((c .before .loop .inv) .1) (search needs)
+entries-returns-2 t c =
+    let a = c .before .before .before .before .args in
+    each-taken (a .levels) (a .s .now) (bytes-of (a .s .now) (λ i. omega (arith, c .before .before .before .shared-slice-known .given i))) (entries-end (c .before .before .loop .inv .1) (search needs)) (c .repeats .result) (c .repeats .ensures)
 
--- ---- an entry: behind its key's header, behind the test of the key, and behind its value
+-- ---- an entry, behind its key's header
 
 abbrev Head : ℕ → Type 0
-Head t = entry-lts.After-known-told (header-at-reads.Asked, header-at-reads.Learnt, is-utf8-reads.Asked, is-utf8-reads.Learnt, value-at-below t, value-at′.Post, has-key-reads.Asked, has-key-reads.Learnt) (entry-at t) entry.Post
-
-abbrev Value : ℕ → Type 0
-Value t = entry-lts.After-known-told2 (header-at-reads.Asked, header-at-reads.Learnt, is-utf8-reads.Asked, is-utf8-reads.Learnt, value-at-below t, value-at′.Post, has-key-reads.Asked, has-key-reads.Learnt) (entry-at t) entry.Post
+Head t = entry-lts.After-known-told (header-at-reads.Asked, header-at-reads.Learnt, is-utf8-reads.Asked, is-utf8-reads.Learnt, value-at-below t, value-at′.Post) (entry-at t) entry.Post
 
 module _ {t : ℕ} (c : Head t) where
   abbrev s : List ℕ
@@ -192,61 +190,28 @@ module _ {t : ℕ} (c : Head t) where
   all-bytes : Bytes s
   all-bytes = bytes-of s (λ i. omega (arith, c .before .before .before .before .shared-slice-known .given i))
 
--- the head of an entry whose value was read, and the value
-abbrev head : {t : ℕ} → Value t → Head t
-head c = c .before .before .before .before .before .before .before .before
-
-module _ {t : ℕ} (c : Value t) where
-  abbrev next : ℕ
-  next = c .before .end .given .0 .0
-
-  held : ReadAt (tree (levels (head c))) (s (head c)) (to (head c)) next
-  held = subst (Walks (tree (levels (head c))) (s (head c)) (to (head c))) (c .before .end .given .1) (c .before .before .before .value-at .ensures)
-
-entry-returns : (t : ℕ) → entry-lts.Need-returns (header-at-reads.Asked, header-at-reads.Learnt, is-utf8-reads.Asked, is-utf8-reads.Learnt, value-at-below t, value-at′.Post, has-key-reads.Asked, has-key-reads.Learnt) (entry-at t) entry.Post
+entry-returns : (t : ℕ) → entry-lts.Need-returns (header-at-reads.Asked, header-at-reads.Learnt, is-utf8-reads.Asked, is-utf8-reads.Learnt, value-at-below t, value-at′.Post) (entry-at t) entry.Post
 entry-returns t c =
     let a = c .before .before .before .args in
     let h = c .before .header-at in
     λ turns. no-key (a .levels) (drop (a .at) (a .s .now)) (omega (arith, length-drop (a .at) (a .s .now), c .before .before .before .pre .1 .0)) turns
     (no-item-there (a .s .now) (a .at) (h .result) (h .ensures) (c .match .keys2))
 
-entry-returns-2 : (t : ℕ) → entry-lts.Need-returns-2 (header-at-reads.Asked, header-at-reads.Learnt, is-utf8-reads.Asked, is-utf8-reads.Learnt, value-at-below t, value-at′.Post, has-key-reads.Asked, has-key-reads.Learnt) (entry-at t) entry.Post
+entry-returns-2 : (t : ℕ) → entry-lts.Need-returns-2 (header-at-reads.Asked, header-at-reads.Learnt, is-utf8-reads.Asked, is-utf8-reads.Learnt, value-at-below t, value-at′.Post) (entry-at t) entry.Post
 entry-returns-2 t c = let h = c .before in λ turns. other-kind (levels h) (drop (at h) (s h)) (long h) turns _ _ _ (key-header h) (c .if1 .taken)
 
-entry-returns-3 : (t : ℕ) → entry-lts.Need-returns-3 (header-at-reads.Asked, header-at-reads.Learnt, is-utf8-reads.Asked, is-utf8-reads.Learnt, value-at-below t, value-at′.Post, has-key-reads.Asked, has-key-reads.Learnt) (entry-at t) entry.Post
+entry-returns-3 : (t : ℕ) → entry-lts.Need-returns-3 (header-at-reads.Asked, header-at-reads.Learnt, is-utf8-reads.Asked, is-utf8-reads.Learnt, value-at-below t, value-at′.Post) (entry-at t) entry.Post
 entry-returns-3 t c =
     let h = c .before .before .before .before in
     let u = c .before .is-utf8 in
     λ turns. key-not-utf8 (levels h) (drop (at h) (s h)) (long h) turns _ _ _ (key-header h) (c .before .before .before .if1 .left) (sym (u .ensures) ∙ not-true (u .result) (c .if2 .taken))
 
-entry-returns-4 : (t : ℕ) → entry-lts.Need-returns-4 (header-at-reads.Asked, header-at-reads.Learnt, is-utf8-reads.Asked, is-utf8-reads.Learnt, value-at-below t, value-at′.Post, has-key-reads.Asked, has-key-reads.Learnt) (entry-at t) entry.Post
+entry-returns-4 : (t : ℕ) → entry-lts.Need-returns-4 (header-at-reads.Asked, header-at-reads.Learnt, is-utf8-reads.Asked, is-utf8-reads.Learnt, value-at-below t, value-at′.Post) (entry-at t) entry.Post
 entry-returns-4 t c =
-    let h = c .before .before .before .before .before .before .before in
-    λ turns. value-refused (levels h) (drop (at h) (s h)) (long h) turns _ _ _ (key-header h) (c .before .before .before .before .before .before .if1 .left)
-    (subst (Walks (tree (levels h)) (s h) (to h)) (c .enum-told .given .1) (c .before .before .value-at .ensures))
-
-entry-has-key-requires : (t : ℕ) → entry-lts.Need-has-key-requires (header-at-reads.Asked, header-at-reads.Learnt, is-utf8-reads.Asked, is-utf8-reads.Learnt, value-at-below t, value-at′.Post, has-key-reads.Asked, has-key-reads.Learnt) (entry-at t) entry.Post
-entry-has-key-requires t c κs = let w = held c in let i = places (head c) in search needs
-
-entry-returns-5 : (t : ℕ) → entry-lts.Need-returns-5 (header-at-reads.Asked, header-at-reads.Learnt, is-utf8-reads.Asked, is-utf8-reads.Learnt, value-at-below t, value-at′.Post, has-key-reads.Asked, has-key-reads.Learnt) (entry-at t) entry.Post
-entry-returns-5 t c =
-    let v = c .before .before in
-    let h = head v in
-    λ turns. key-again (levels h) (drop (at h) (s h)) (long h) turns _ _ _ (key-header h) (v .before .before .before .before .before .before .before .if1 .left) _ _ (held v .is)
-    (bytes-drop (next v) (s h) (all-bytes h)) (λ es e. sym (c .before .has-key .ensures es (whole-rest (s h) (next v) ∙ e)) ∙ c .if3 .taken)
-
-entry-returns-6 : (t : ℕ) → entry-lts.Need-returns-6 (header-at-reads.Asked, header-at-reads.Learnt, is-utf8-reads.Asked, is-utf8-reads.Learnt, value-at-below t, value-at′.Post, has-key-reads.Asked, has-key-reads.Learnt) (entry-at t) entry.Post
-entry-returns-6 t c =
-    let v = c .before .before in
-    let h = head v in
-    let u = v .before .before .before .before .before .is-utf8 in
-    record {
-      is = λ turns. key-new (levels h) (drop (at h) (s h)) (long h) turns _ _ _ (key-header h) (v .before .before .before .before .before .before .before .if1 .left) _ _ (held v .is)
-          (bytes-drop (next v) (s h) (all-bytes h)) (sym (u .ensures) ∙ not-false (u .result) (v .before .before .before .before .if2 .left))
-          (λ es e. sym (c .before .has-key .ensures es (whole-rest (s h) (next v) ∙ e)) ∙ c .if3 .left);
-      forward = omega (arith, places h .start, places h .order, held v .forward);
-      fits = held v .fits;
-    }
+    let h = c .before .before .before .before .before in
+    let u = c .before .before .is-utf8 in
+    entry-follows (levels h) (s h) (at h) _ (to h) _ (long h) (omega (arith, places h .start, places h .order)) (key-header h) (c .before .before .before .before .if1 .left)
+    (sym (u .ensures) ∙ not-false (u .result) (c .before .if2 .left)) (c .value-at .result) (c .value-at .ensures)
 
 abbrev items-Inv-loop : items-lts.InvT-loop
 items-Inv-loop s levels at₀ at = (at ≤ length s) × Items-left levels s at
@@ -362,6 +327,8 @@ pub +entries+entry+items+value+value-at-spec : {M : Type 1} → statement M
     close μ-entries μ-entry μ-items μ-value μ-value-at (λ t. entries-lts.spec (
       entry-below t,
       entry.Post,
+      repeats-reads.Asked,
+      repeats-reads.Learnt,
     )
     (entries-at t)
     entries.Post
@@ -374,6 +341,7 @@ pub +entries+entry+items+value+value-at-spec : {M : Type 1} → statement M
     (entries-returns t)
     (entries-loop-less t)
     (entries-loop-again t)
+    (λ c κs. search needs)
     (entries-returns-2 t))
     (λ t. entry-lts.spec (
       header-at-reads.Asked,
@@ -382,8 +350,6 @@ pub +entries+entry+items+value+value-at-spec : {M : Type 1} → statement M
       is-utf8-reads.Learnt,
       value-at-below t,
       value-at′.Post,
-      has-key-reads.Asked,
-      has-key-reads.Learnt,
     )
     (entry-at t)
     entry.Post
@@ -397,12 +363,7 @@ pub +entries+entry+items+value+value-at-spec : {M : Type 1} → statement M
     (λ c κs. search needs)
     (entry-returns-3 t)
     (λ c κs. search needs)
-    (λ c. search needs)
-    (λ c. search needs)
-    (entry-returns-4 t)
-    (entry-has-key-requires t)
-    (entry-returns-5 t)
-    (entry-returns-6 t))
+    (entry-returns-4 t))
     (λ t. items-lts.spec
     (value-at-below t, value-at′.Post)
     (items-at t)

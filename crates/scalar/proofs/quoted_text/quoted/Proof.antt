@@ -28,6 +28,13 @@ returns c =
     let k = subst (Spans (quotedOf (a .quote) cap (a .line)) (a .s .now) (a .i)) (c .before .before .next .given .1) (c .before .before .before .before .span-of .ensures cap) in
     λ role. quoted-agree role (quotedOf (a .quote) cap (a .line)) (a .s .now) (a .out .now) (a .out .now) (a .at) (a .line) (a .i) _ _ k (Refused WorkTooShort) (refl, omega (arith, k .long, item-length 3 (k .content)))
 
+put-content-requires : tie.Need-put-content-requires
+put-content-requires c κs =
+    let a = c .before .before .before .before .before .before .before .before .before .before .before .before .args in
+    let k = subst (Spans (quotedOf (a .quote) 0 (a .line)) (a .s .now) (a .i))
+    (c .before .before .before .before .before .before .before .next .given .1) (c .before .before .before .before .before .before .before .before .before .span-of .ensures 0) in
+    (k .within, k .forward, search needs)
+
 returns-2 : tie.Need-returns-2
 returns-2 c =
     let a = c .before .before .before .before .before .before .before .before .before .before .before .before .before .before .before .args in
@@ -35,10 +42,10 @@ returns-2 c =
     let k = subst (Spans (quotedOf (a .quote) cap (a .line)) (a .s .now) (a .i))
     (c .before .before .before .before .before .before .before .before .before .before .next .given .1)
     (c .before .before .before .before .before .before .before .before .before .before .before .before .span-of .ensures cap) in
-    let e = c .before .before .put-bytes .ensures cap (k .content) _ (k .is) (k .long)
+    let e = c .before .before .put-content .ensures cap (k .content) (k .is) (k .long)
     ∙ ap (λ (l : List ℕ). sets l (a .at + 6) (k .content)) (c .before .before .before .before .before .before .put-header .ensures ∙ ap (λ (n : ℕ). sets (a .out .now) (a .at) (head 3 n)) (sym (k .long)))
     ∙ sets-item (a .out .now) (a .at) 3 (k .content) in
-    λ role. quoted-agree role (quotedOf (a .quote) cap (a .line)) (a .s .now) (a .out .now) (c .before .before .put-bytes .last .1 .1 .1 .1 .1 .0) (a .at) (a .line) (a .i) _ _ k (Done _ _ true)
+    λ role. quoted-agree role (quotedOf (a .quote) cap (a .line)) (a .s .now) (a .out .now) (c .before .before .put-content .last .1 .1 .1 .1 .1 .1 .0) (a .at) (a .line) (a .i) _ _ k (Done _ _ true)
     (refl, refl, record { is = e; grows = omega (arith, k .long, item-length 3 (k .content)); fits = omega arith })
 
 returns-3 : tie.Need-returns-3
@@ -58,7 +65,7 @@ quoted-spec =
     returns
     (λ c κs. search needs)
     (λ c. search needs)
-    (λ c κs. search needs)
+    put-content-requires
     (λ c. search needs)
     (λ c. search needs)
     (λ c. search needs)
