@@ -1,10 +1,12 @@
 -- What a line of the text gives, by its places. Assumes nothing.
 use mathlib.Core.Path.{_≡_, refl, sym, ap, _∙_}
-use Prim.Native.Nat.{ℕ, _+_, _*_, _-_, _≤_, _<_}
+use Prim.Native.Nat.{ℕ, suc, _+_, _*_, _-_, _≤_, _<_}
 use native.Mathlib.Numerals.{add-one}
 use native.Mathlib.Omega.{arith}
 use mathlib.Core.List.{List, [], _∷_, _++_, append-assoc, append-nil}
-use mathlib.Core.Bool.{true, false}
+use mathlib.Core.Bool.{Bool, true, false}
+use mathlib.Core.Logic.{⊎-elim}
+use lib.Dec.{ltb}
 use lib.ListN.{length, drop, drop-of-length-le}
 use lib.Seq.{sets}
 use borrow.Author.Tests.{lt-ltb, le-ltb}
@@ -15,13 +17,22 @@ use Rattle.utf8.proofs.Laws.{part-empty, part-cons, part-drop, part-take, end-p
 use Rattle.lines.specs.declared.Raw.{Raw}
 use Rattle.lines.specs.declared.Literal.{Literal}
 use Rattle.lines.specs.declared.Literal.the-variants.{Closed, Under}
+use types.Run.{OneOf}
+use denote.Enum.Declared.{tagOf}
+use Rattle.lines.proofs.Way.{the-type}
 use Rattle.lines.specs.Lines.{Line, line, splitLines, significantLines, indentOf, tabbed, stripComment, significant, isMarker, opensLiteral, literalOf, literalAfter, Event, entry, eventsOf, blanksBefore, bodyOf, scan, collect}
-use Rattle.lines.specs.Places.{IsRaw, RawAt, rawText, normal, body}
+use Rattle.lines.specs.declared.Way.{Way}
+use Rattle.lines.specs.declared.Way.the-variants.{Normal, Blank, Body}
+use Rattle.lines.specs.Places.{IsRaw, RawAt, rawText, wayOf, normal, body}
 use Rattle.lines.specs.declared.LineTaken.{LineTaken}
 use Rattle.lines.specs.declared.LineTaken.the-variants.{Next, Refused as Stopped}
 use Rattle.lines.specs.Table.{tableLines, Placed, behind, Took, Takes, reading}
 use Rattle.lines.proofs.Laws.{strip-take, indent-tab, indent-white}
 use Rattle.lines.proofs.TableLaws.{took-none, took-both, took-entry, collect-bad, collect-full, collect-blanks}
+
+pub way-closed : (t : List ℕ) → wayOf Closed t ≡ Normal
+unfolding wayOf
+way-closed t = refl
 
 -- the same events before and after, written in another way
 pub took-of : {text t u : List ℕ} {c d : ℕ} {es fs gs hs : List Event} → es ≡ fs → gs ≡ hs → Took text t u c d fs hs → Took text t u c d es gs
@@ -59,10 +70,6 @@ module _ (text : List ℕ) (raw : Raw) (ok : IsRaw text raw) where
 
   -- ---- read normally
 
-  pub tab-stops : (room : ℕ) → tabbed (rawText text raw) ≡ true → (raws : List (List ℕ)) → collect room (normal raw text raws) ≡ refused 4 n 0
-  unfolding eventsOf if_then_else_
-  tab-stops room t raws = rw t (collect-bad room 4 n (scan (literalAfter (rawText text raw)) 0 (n + 1) raws))
-
   module _ (e : ℕ) (p : significant (rawText text raw) ≡ part text start e) (t : tabbed (rawText text raw) ≡ false) where
     pub none-takes : (old : List ℕ) (count : ℕ) → count ≤ 2048 → e ≡ start → (raws : List (List ℕ))
         → Took text old old count count (normal raw text raws) (scan Closed 0 (n + 1) raws)
@@ -99,10 +106,6 @@ module _ (text : List ℕ) (raw : Raw) (ok : IsRaw text raw) where
   -- ---- a body line
 
   module _ (under waiting : ℕ) where
-    pub tab-stops-body : (room : ℕ) → tabbed (rawText text raw) ≡ true → (raws : List (List ℕ)) → collect room (body raw under waiting text raws) ≡ refused 4 n 0
-    unfolding bodyOf if_then_else_
-    tab-stops-body room t raws = rw t (collect-bad room 4 n (scan (Under under) 0 (n + 1) raws))
-
     abbrev last : Event
     last = entry (line (start - raw .from) (trimEnd inner) n)
 
@@ -128,22 +131,62 @@ module _ (text : List ℕ) (raw : Raw) (ok : IsRaw text raw) where
   -- ---- which of these a line is
 
   module _ (waiting : ℕ) (raws : List (List ℕ)) where
-    pub scan-closed : scan Closed waiting n (rawText text raw ∷ raws) ≡ normal raw text raws
-    unfolding scan
-    scan-closed = rw add-one
+    unfoldable read-by : Way → List Event
+    read-by Normal = normal raw text raws
+    read-by (Blank under) = scan (Under under) (waiting + 1) (n + 1) raws
+    read-by (Body under) = body raw under waiting text raws
 
-    module _ (under : ℕ) where
-      pub scan-blank : allWhite (rawText text raw) ≡ true → scan (Under under) waiting n (rawText text raw ∷ raws) ≡ scan (Under under) (waiting + 1) (n + 1) raws
-      unfolding scan if_then_else_
-      scan-blank w = rw (w, add-one waiting, add-one n)
+    by-way : (lit : Literal) → scan lit waiting n (rawText text raw ∷ raws) ≡ read-by (wayOf lit (rawText text raw))
+    unfolding scan wayOf read-by if_then_else_
+    by-way Closed = rw add-one
+    by-way (Under under) = go (allWhite (rawText text raw)) (ltb under (indentOf (rawText text raw)))
+      where
+        go : (blank deep : Bool) → (if blank then scan (Under under) (suc waiting) (suc n) raws
+            else if deep then bodyOf waiting n (rawText text raw) ++ scan (Under under) 0 (suc n) raws
+            else eventsOf n (rawText text raw) ++ scan (literalAfter (rawText text raw)) 0 (suc n) raws)
+            ≡ read-by (if blank then Blank under else if deep then Body under else Normal)
+        go true deep = rw (add-one waiting, add-one n)
+        go false true = rw (add-one n)
+        go false false = rw (add-one n)
 
-      pub scan-shallow : allWhite (rawText text raw) ≡ false → start - raw .from ≤ under → scan (Under under) waiting n (rawText text raw ∷ raws) ≡ normal raw text raws
-      unfolding scan if_then_else_
-      scan-shallow w h = rw (w, le-ltb under (indentOf (rawText text raw)) (omega (arith, raw-indent)), add-one)
+    module _ (lit : Literal) where
+      pub scan-normal : (way : Way) → wayOf lit (rawText text raw) ≡ way → OneOf (0 ∷ 2 ∷ []) (tagOf the-type way) → OneOf (0 ∷ 1 ∷ []) (tagOf the-type way)
+          → scan lit waiting n (rawText text raw ∷ raws) ≡ normal raw text raws
+      unfolding read-by
+      scan-normal Normal w k l = by-way lit ∙ ap read-by w
+      scan-normal (Blank under) w k l = absurd (⊎-elim (λ z. omega arith) (λ z. omega arith) k)
+      scan-normal (Body under) w k l = absurd (⊎-elim (λ z. omega arith) (λ z. omega arith) l)
 
-      pub scan-body : allWhite (rawText text raw) ≡ false → under < start - raw .from → scan (Under under) waiting n (rawText text raw ∷ raws) ≡ body raw under waiting text raws
-      unfolding scan if_then_else_
-      scan-body w h = rw (w, lt-ltb under (indentOf (rawText text raw)) (omega (arith, raw-indent)), add-one)
+      pub scan-blank : (under : ℕ) → wayOf lit (rawText text raw) ≡ Blank under → scan lit waiting n (rawText text raw ∷ raws) ≡ scan (Under under) (waiting + 1) (n + 1) raws
+      unfolding read-by
+      scan-blank under w = by-way lit ∙ ap read-by w
+
+      -- a tab stops a line that is not blank
+      pub tab-stops : (way : Way) → wayOf lit (rawText text raw) ≡ way → OneOf (0 ∷ 2 ∷ []) (tagOf the-type way) → (room : ℕ) → tabbed (rawText text raw) ≡ true
+          → collect room (scan lit waiting n (rawText text raw ∷ raws)) ≡ refused 4 n 0
+      unfolding read-by eventsOf bodyOf if_then_else_
+      tab-stops Normal w k room t = ap (collect room) (by-way lit ∙ ap read-by w) ∙ rw t (collect-bad room 4 n (scan (literalAfter (rawText text raw)) 0 (n + 1) raws))
+      tab-stops (Blank under) w k room t = absurd (⊎-elim (λ z. omega arith) (λ z. omega arith) k)
+      tab-stops (Body under) w k room t = ap (collect room) (by-way lit ∙ ap read-by w) ∙ rw t (collect-bad room 4 n (scan (Under under) 0 (n + 1) raws))
+
+      pub scan-body : (under : ℕ) → wayOf lit (rawText text raw) ≡ Body under → scan lit waiting n (rawText text raw ∷ raws) ≡ body raw under waiting text raws
+      unfolding read-by
+      scan-body under w = by-way lit ∙ ap read-by w
+
+  -- ---- how it is read, by its places
+
+  pub way-blank : (under : ℕ) → allWhite (rawText text raw) ≡ true → wayOf (Under under) (rawText text raw) ≡ Blank under
+  unfolding wayOf if_then_else_
+  way-blank under w = rw w
+
+  module _ (under : ℕ) (w : allWhite (rawText text raw) ≡ false) where
+    pub way-shallow : start - raw .from ≤ under → wayOf (Under under) (rawText text raw) ≡ Normal
+    unfolding wayOf if_then_else_
+    way-shallow h = rw (w, le-ltb under (indentOf (rawText text raw)) (omega (arith, raw-indent)))
+
+    pub way-body : under < start - raw .from → wayOf (Under under) (rawText text raw) ≡ Body under
+    unfolding wayOf if_then_else_
+    way-body h = rw (w, lt-ltb under (indentOf (rawText text raw)) (omega (arith, raw-indent)))
 
 -- ---- the whole text
 

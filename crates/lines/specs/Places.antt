@@ -1,14 +1,18 @@
 -- Section 1 of document 01, for the contracts inside the crate: where the lines of a text begin and end, by places. Uses Base of `refusal`;
--- Part of `utf8`; Lines of this crate. Assumes nothing.
+-- Part and White of `utf8`; Lines of this crate. Assumes nothing.
 use mathlib.Core.Path.{_≡_}
 use Prim.Native.Nat.{ℕ, suc, _+_, _≤_, _<_}
 use mathlib.Core.List.{List, [], _∷_, _++_}
-use lib.Dec.{eqb}
+use lib.Dec.{eqb, ltb}
 use lib.ListN.{length, drop, getD}
 use Rattle.refusal.specs.Base.{if_then_else_, ch}
 use Rattle.utf8.specs.Part.{part}
+use Rattle.utf8.specs.White.{allWhite}
 use Rattle.lines.specs.declared.Raw.{Raw}
-use Rattle.lines.specs.declared.Literal.the-variants.{Under}
+use Rattle.lines.specs.declared.Literal.{Literal}
+use Rattle.lines.specs.declared.Literal.the-variants.{Closed, Under}
+use Rattle.lines.specs.declared.Way.{Way}
+use Rattle.lines.specs.declared.Way.the-variants.{Normal, Blank, Body}
 use Rattle.lines.specs.Lines.{splitLines, indentOf, Event, eventsOf, literalAfter, bodyOf, scan}
 
 -- no byte from the place `from` up to the place `to` is `b`
@@ -38,6 +42,14 @@ pub record IsRaw (text : List ℕ) (raw : Raw) : Type 0 where
   pub high : raw .to ≤ length text
   pub some : 0 < raw .number
   pub few : raw .number ≤ 65535
+
+-- how a line is read, by what is open
+unfoldable pub wayOf : Literal → List ℕ → Way
+wayOf Closed raw = Normal
+wayOf (Under at) raw =
+    if allWhite raw then Blank at
+    else if ltb at (indentOf raw) then Body at
+    else Normal
 
 -- what the scan gives from a line on that is read normally, or as a body line
 abbrev pub normal : Raw → List ℕ → List (List ℕ) → List Event

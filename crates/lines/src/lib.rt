@@ -11,7 +11,7 @@ ghost use Rattle.lines.specs.Lines.{indentOf, tabbed, afterPlain, placeA
 ghost use Rattle.lines.specs.Lines.{literalOf, Event, blanksBefore, scan, mostLines};
 ghost use Rattle.lines.specs.Dash as definition;
 ghost use Rattle.lines.specs.Dash.{isDash};
-ghost use Rattle.lines.specs.Places.{Lacks, untilNewline, LineEnds, IsRaw, RawAt, rawText, normal, body};
+ghost use Rattle.lines.specs.Places.{Lacks, untilNewline, LineEnds, IsRaw, RawAt, rawText, normal, body, wayOf};
 ghost use Rattle.lines.specs.Table.{tableSize, lineAt, Took, Takes, AgreesLines, IsEntry};
 ghost use Rattle.lines.specs.Ready.{Ready};
 use item::same_bytes;
@@ -69,6 +69,13 @@ pub enum LineTaken {
         waiting: usize,
     },
     Refused(Refusal),
+}
+
+// How a line is read: normally, or as a blank or a body line of the literal that is open under an indentation.
+pub enum Way {
+    Normal,
+    Blank(usize),
+    Body(usize),
 }
 
 // Whether one of eight bytes is `b`: with no branch between them, they are looked at together.
@@ -307,15 +314,12 @@ fn put_blanks(table: &mut [u16], at: usize, waiting: usize, indent: usize, numbe
 
 // A line that is read normally.
 fn normal_line(text: &[u8], raw: Raw, table: &mut [u16], count: usize) -> LineTaken
-    requires { ⌜ (length (now table) ≡ tableSize) × IsRaw (now text) raw × (count ≤ mostLines) ⌝ }
+    requires { ⌜ (length (now table) ≡ tableSize) × IsRaw (now text) raw × (tabbed (rawText (now text) raw) ≡ false) × (count ≤ mostLines) ⌝ }
     ensures { λ r. ⌜ Takes (now (text .entry)) (now (table .entry)) (now (table .exit)) count (raw .number)
         (λ raws. normal raw (now (text .entry)) raws) r ⌝ }
 {
     let start = raw.start;
     let line = raw.number as u32;
-    if tab_leads(text, start, raw.to) {
-        return LineTaken::Refused(Refusal::TabInIndentation { line });
-    }
     let end = trim_end(text, start, comment_at(text, start, raw.to));
     if end == start {
         return LineTaken::Next {
@@ -349,17 +353,13 @@ fn body_line(
     table: &mut [u16],
     count: usize,
 ) -> LineTaken
-    requires { ⌜ (length (now table) ≡ tableSize) × IsRaw (now text) raw × (count ≤ mostLines) × (waiting < raw .number) ⌝ }
+    requires { ⌜ (length (now table) ≡ tableSize) × IsRaw (now text) raw × (tabbed (rawText (now text) raw) ≡ false) × (count ≤ mostLines)
+        × (waiting < raw .number) ⌝ }
     ensures { λ r. ⌜ Takes (now (text .entry)) (now (table .entry)) (now (table .exit)) count (raw .number)
         (λ raws. body raw under waiting (now (text .entry)) raws) r ⌝ }
 {
     let start = raw.start;
     let number = raw.number;
-    if tab_leads(text, start, raw.to) {
-        return LineTaken::Refused(Refusal::TabInIndentation {
-            line: number as u32,
-        });
-    }
     let room = MOST_LINES - count;
     if room <= waiting {
         return LineTaken::Refused(Refusal::TooManyLines {
@@ -383,6 +383,23 @@ fn body_line(
     }
 }
 
+fn way_of(text: &[u8], raw: Raw, literal: Literal) -> Way
+    requires { ⌜ IsRaw (now text) raw ⌝ }
+    ensures { λ r. ⌜ r ≡ wayOf literal (rawText (now (text .entry)) raw) ⌝ }
+{
+    let Literal::Under(under) = literal else {
+        return Way::Normal;
+    };
+    if trim_start(text, raw.start, raw.to) == raw.to {
+        return Way::Blank(under);
+    }
+    if raw.start - raw.from <= under {
+        return Way::Normal;
+    }
+    Way::Body(under)
+}
+
+// A tab in its indentation stops any line but a blank one of a literal.
 fn read_line(
     text: &[u8],
     raw: Raw,
@@ -395,20 +412,23 @@ fn read_line(
     ensures { λ r. ⌜ Takes (now (text .entry)) (now (table .entry)) (now (table .exit)) count (raw .number)
         (λ raws. scan literal waiting (raw .number) (rawText (now (text .entry)) raw ∷ raws)) r ⌝ }
 {
-    let Literal::Under(under) = literal else {
-        return normal_line(text, raw, table, count);
-    };
-    if trim_start(text, raw.start, raw.to) == raw.to {
+    let way = way_of(text, raw, literal);
+    if let Way::Blank(under) = way {
         return LineTaken::Next {
             count,
             literal: Literal::Under(under),
             waiting: waiting + 1,
         };
     }
-    if raw.start - raw.from <= under {
-        return normal_line(text, raw, table, count);
+    if tab_leads(text, raw.start, raw.to) {
+        return LineTaken::Refused(Refusal::TabInIndentation {
+            line: raw.number as u32,
+        });
     }
-    body_line(text, raw, under, waiting, table, count)
+    if let Way::Body(under) = way {
+        return body_line(text, raw, under, waiting, table, count);
+    }
+    normal_line(text, raw, table, count)
 }
 
 // The line that starts at `at`.

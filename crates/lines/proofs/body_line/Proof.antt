@@ -1,42 +1,31 @@
 -- Each return is one of the things that a body line can give. Assumes nothing.
 use borrow.Author.Needs.{needs}
-use mathlib.Core.Path.{_≡_, sym, _∙_}
-use mathlib.Core.Bool.{false}
 use Prim.Native.Nat.{_-_}
 use native.Mathlib.Omega.{arith}
-use Rattle.lines.specs.Lines.{tabbed}
-use Rattle.lines.specs.Places.{IsRaw, rawText}
-use Rattle.lines.proofs.ScanLaws.{raw-tab, tab-stops-body, full-stops-body, body-takes}
+use Rattle.lines.specs.Places.{IsRaw}
+use Rattle.lines.proofs.ScanLaws.{full-stops-body, body-takes}
 use Rattle.lines.proofs.body_line.Statement.{statement}
 use Rattle.lines.proofs.body_line.Tie as tie
 
 returns : tie.Need-returns
 returns c =
-    let a = c .before .before .before .before .args in
-    let ok : IsRaw (a .text .now) (a .raw) = c .before .before .before .before .pre .1 in
-    tab-stops-body (a .text .now) (a .raw) ok (a .under) (a .waiting) (2048 - a .count) (sym (raw-tab (a .text .now) (a .raw) ok) ∙ sym (c .before .tab-leads .ensures) ∙ c .if1 .taken)
-
-returns-2 : tie.Need-returns-2
-returns-2 c =
-    let a = c .before .before .before .before .before .args in
-    let ok : IsRaw (a .text .now) (a .raw) = c .before .before .before .before .before .pre .1 in
-    let t : tabbed (rawText (a .text .now) (a .raw)) ≡ false = sym (raw-tab (a .text .now) (a .raw) ok) ∙ sym (c .before .before .tab-leads .ensures) ∙ c .before .if1 .left in
+    let a = c .before .before .before .args in
+    let ok : IsRaw (a .text .now) (a .raw) = c .before .before .before .pre .1 in
+    let t = c .before .before .before .pre .2 in
     λ raws. full-stops-body (a .text .now) (a .raw) ok (a .under) (a .waiting) t raws (2048 - a .count) (search needs) (omega arith)
 
 put-entry-requires : tie.Need-put-entry-requires
 put-entry-requires c κs =
-    let a = c .before .before .before .before .before .before .before .before .before .before .before .before .args in
-    let ok : IsRaw (a .text .now) (a .raw) = c .before .before .before .before .before .before .before .before .before .before .before .before .pre .1 in
+    let a = c .before .before .before .before .before .before .before .before .before .before .args in
+    let ok : IsRaw (a .text .now) (a .raw) = c .before .before .before .before .before .before .before .before .before .before .pre .1 in
     let e = c .trim-end .ensures .0 in
-    (omega (arith, c .before .before .before .before .before .before .before .before .before .before .before .before .pre .0, c .before .before .before .before .put-blanks .kept .0), omega arith, omega arith, omega arith, omega arith, omega arith)
+    (omega (arith, c .before .before .before .before .before .before .before .before .before .before .pre .0, c .before .before .before .before .put-blanks .kept .0), omega arith, omega arith, omega arith, omega arith, omega arith)
 
-returns-3 : tie.Need-returns-3
-returns-3 c =
-    let a = c .before .before .before .before .before .before .before .before .before .before .before .before .before .before .before .args in
-    let ok : IsRaw (a .text .now) (a .raw) = c .before .before .before .before .before .before .before .before .before .before .before .before .before .before .before .pre .1 in
-    let t : tabbed (rawText (a .text .now) (a .raw)) ≡ false = sym (raw-tab (a .text .now) (a .raw) ok)
-    ∙ sym (c .before .before .before .before .before .before .before .before .before .before .before .before .tab-leads .ensures)
-    ∙ c .before .before .before .before .before .before .before .before .before .before .before .if1 .left in
+returns-2 : tie.Need-returns-2
+returns-2 c =
+    let a = c .before .before .before .before .before .before .before .before .before .before .before .before .before .args in
+    let ok : IsRaw (a .text .now) (a .raw) = c .before .before .before .before .before .before .before .before .before .before .before .before .before .pre .1 in
+    let t = c .before .before .before .before .before .before .before .before .before .before .before .before .before .pre .2 in
     let p = c .before .before .before .before .before .before .before .put-blanks in (
       search needs,
       λ raws. rw (c .before .before .put-entry .ensures)
@@ -45,7 +34,7 @@ returns-3 c =
           (c .before .before .before .trim-end .ensures .1 .1)
           (omega (
             arith,
-            c .before .before .before .before .before .before .before .before .before .before .before .before .before .before .before .pre .0,
+            c .before .before .before .before .before .before .before .before .before .before .before .before .before .pre .0,
             p .kept .0,
           )) (omega arith) (p .ensures (a .text .now))),
     )
@@ -54,13 +43,10 @@ pub body-line-spec : {M : Type 1} → statement M
 body-line-spec =
     tie.close
     (tie.spec
-    (λ c κs. search needs)
+    (λ c. search needs)
+    (λ c. search needs)
     (λ c. search needs)
     returns
-    (λ c. search needs)
-    (λ c. search needs)
-    (λ c. search needs)
-    returns-2
     (λ c. search needs)
     (λ c κs. search needs)
     (λ c. search needs)
@@ -69,4 +55,4 @@ body-line-spec =
     (λ c. search needs)
     (λ c. search needs)
     (λ c. search needs)
-    returns-3)
+    returns-2)
