@@ -1,6 +1,7 @@
 //! Writes a stream of texts. README.md tells the kinds.
 
 mod boundary;
+mod keys;
 mod mutations;
 mod random;
 mod scenarios;
@@ -18,6 +19,7 @@ use writing::{escape, unescape, write_text};
 const USAGE: &str = "\
 usage: generate [--show] scenario SEED COUNT
        generate [--show] mutate SEED COUNT
+       generate [--show] keys SEED COUNT
        generate [--show] short CHARACTERS LENGTH [SEED COUNT]
        generate [--show] words WORD,WORD.. LENGTH [SEED COUNT]
        generate [--show] boundary
@@ -63,6 +65,7 @@ fn generate(words: &[&str], out: &mut Out) -> Result<(), String> {
     match words {
         ["scenario", seed, count] => repeat(seed, count, out, scenarios::scenario),
         ["mutate", seed, count] => repeat(seed, count, out, mutations::mutated),
+        ["keys", seed, count] => repeat(seed, count, out, keys::text),
         ["short", characters, length, rest @ ..] => {
             let characters = String::from_utf8(unescape(characters)?).map_err(|e| e.to_string())?;
             let alphabet = characters.chars().map(|c| c.to_string().into_bytes()).collect();

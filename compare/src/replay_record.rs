@@ -1,6 +1,6 @@
 //! Writes the sections of records into the stream of `crates/replay`, behind what the file named by
 //! the argument has, and prints what must be printed of them. Records come in as lines of
-//! hexadecimal text.
+//! hexadecimal text. With a seed behind the file, they and their damaged copies alone are written.
 
 use std::fs::OpenOptions;
 use std::io::{self, BufRead, Write};
@@ -226,11 +226,10 @@ impl Cases {
     }
 }
 
-fn main() {
-    let path = std::env::args().nth(1).expect("the file for the stream");
-    let mut cases = Cases { stream: Vec::new(), answers: b"tr.strike....\n".to_vec() };
+/// The cases that are always the same.
+fn fixed(cases: &mut Cases) {
+    cases.answers.extend(b"tr.strike....\n");
     cases.begin("parts");
-    let mut random = Random::new(41);
     cases.begin("records");
     cases.small(&written(&with_step("strike", map(&["a"]), null())));
     let mut ends = Vec::new();
@@ -244,6 +243,17 @@ fn main() {
     cases.end();
     for whole in [LONGEST - 1, LONGEST, LONGEST + 1] {
         cases.long(whole);
+    }
+}
+
+fn main() {
+    let mut arguments = std::env::args().skip(1);
+    let path = arguments.next().expect("the file for the stream");
+    let seed = arguments.next().map(|word| word.parse().expect("a seed"));
+    let mut cases = Cases { stream: Vec::new(), answers: Vec::new() };
+    let mut random = Random::new(seed.unwrap_or(41));
+    if seed.is_none() {
+        fixed(&mut cases);
     }
     cases.begin("records");
     for line in io::stdin().lock().lines() {
