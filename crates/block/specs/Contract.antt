@@ -1,5 +1,5 @@
--- Section 3 of document 01, for the contracts inside the crate: what the readers of blocks promise. Uses Base and Told of `refusal`; Part
--- of `utf8`; Tree and Encode of `item`; Lines, Table and Dash of `lines`; Key of `scalar`; Literal of `literal`; Block of this crate.
+-- Section 3 of document 01, for the contracts inside the crate: what the readers of blocks promise. Uses Base of `refusal`; Part of
+-- `utf8`; Tree and Encode of `item`; Lines, Table and Dash of `lines`; Key and Contract of `scalar`; Literal of `literal`; Block of this crate.
 -- Assumes nothing.
 use mathlib.Core.Path.{_≡_}
 use Prim.Native.Nat.{ℕ, _+_, _-_, _≤_, _<_}
@@ -9,7 +9,6 @@ use mathlib.Core.Option.{Option, none}
 use lib.ListN.{length, drop}
 use lib.Seq.{sets}
 use Rattle.refusal.specs.Base.{Answer, good, maybe, if_then_else_, bytes, same, empty}
-use Rattle.refusal.specs.Told.{refusal}
 use Rattle.utf8.specs.Part.{part}
 use Rattle.item.specs.Tree.{Yaml}
 use Rattle.item.specs.Encode.{item, encode}
@@ -17,6 +16,7 @@ use Rattle.lines.specs.Lines.{Line}
 use Rattle.lines.specs.Table.{indentAt, startAt, endAt, tableLines}
 use Rattle.lines.specs.Dash.{dashed, isDash}
 use Rattle.scalar.specs.Key.{keyEnd}
+use Rattle.scalar.specs.Contract.{Refuses}
 use Rattle.literal.specs.Literal.{Read}
 use Rattle.block.specs.declared.Opening.{Opening}
 use Rattle.block.specs.declared.Opening.the-variants.{Dash, Key, Flow}
@@ -72,7 +72,7 @@ pub record WroteKey (answer : Answer (List ℕ × ℕ)) (old new : List ℕ) (at
 
 abbrev pub AgreesKey : Answer (List ℕ × ℕ) → List ℕ → List ℕ → ℕ → KeyRead → Type 0
 AgreesKey answer old new at (Done used) = WroteKey answer old new at used
-AgreesKey answer old new at (Refused e) = answer ≡ refusal e
+AgreesKey answer old new at (Refused e) = Refuses answer old new at e
 
 -- an entry read up to the line `next` of `ls`, its key written from `at` up to `keyEnd`, and its value behind it
 pub record WroteEntry (answer : Read (List ℕ × Yaml)) (ls : List Line) (i : ℕ) (old new : List ℕ) (at next keyEnd used : ℕ) : Type 0 where
@@ -88,7 +88,7 @@ pub record WroteEntry (answer : Read (List ℕ × Yaml)) (ls : List Line) (i : �
 
 abbrev pub AgreesEntry : Read (List ℕ × Yaml) → List Line → ℕ → List ℕ → List ℕ → ℕ → EntryRead → Type 0
 AgreesEntry answer ls i old new at (Took next keyEnd used) = WroteEntry answer ls i old new at next keyEnd used
-AgreesEntry answer ls i old new at (Stopped e) = answer ≡ refusal e
+AgreesEntry answer ls i old new at (Stopped e) = Refuses answer old new at e
 
 -- the same of the lines of a table from `i` on
 abbrev pub ReadsEntry : (ℕ → List Line → Read (List ℕ × Yaml)) → List ℕ → List ℕ → ℕ → ℕ → List ℕ → List ℕ → ℕ → EntryRead → Type 0

@@ -1,4 +1,4 @@
--- Section 2 of document 01, for the contracts inside the crate: what the readers of collections promise. Uses Base and Told of `refusal`;
+-- Section 2 of document 01, for the contracts inside the crate: what the readers of collections promise. Uses Base of `refusal`;
 -- Tree and Encode of `item`; Contract, Scalars and Read of `scalar`; Flow of this crate. Assumes nothing.
 use mathlib.Core.Path.{_≡_}
 use Prim.Native.Nat.{ℕ, zero, suc, _+_, _≤_, _<_}
@@ -9,12 +9,11 @@ use lib.Dec.{eqb}
 use lib.ListN.{length, drop}
 use lib.Seq.{sets}
 use Rattle.refusal.specs.Base.{Answer, good, _>>=_, given, if_then_else_, ch}
-use Rattle.refusal.specs.Told.{refusal}
 use Rattle.item.specs.Tree.{Yaml, seq, dict, end, done}
 use Rattle.item.specs.Encode.{item, encode}
 use Rattle.scalar.specs.declared.Role.{Role}
 use Rattle.scalar.specs.declared.Role.the-variants.{AsKey}
-use Rattle.scalar.specs.Contract.{written, isKey}
+use Rattle.scalar.specs.Contract.{written, isKey, Refuses}
 use Rattle.scalar.specs.Scalars.{keyText}
 use Rattle.scalar.specs.Read.{Got, Reader, skipSpaces}
 use Rattle.flow.specs.declared.PairRead.{PairRead}
@@ -70,7 +69,7 @@ pub record WrotePair (answer : Answer (Got (List ℕ × Yaml))) (s old new : Lis
 
 abbrev pub AgreesPair : Answer (Got (List ℕ × Yaml)) → List ℕ → List ℕ → List ℕ → ℕ → ℕ → PairRead → Type 0
 AgreesPair answer s old new i at (Done next keyEnd used) = WrotePair answer s old new i at next keyEnd used
-AgreesPair answer s old new i at (Refused e) = answer ≡ refusal e
+AgreesPair answer s old new i at (Refused e) = Refuses answer old new at e
 
 -- a part of a line that is one value, written from `at` up to `used`
 pub record WroteWhole (role : Role) (answer : Answer (Yaml × ℕ)) (old new : List ℕ) (at used : ℕ) (key : Bool) : Type 0 where
@@ -83,4 +82,4 @@ pub record WroteWhole (role : Role) (answer : Answer (Yaml × ℕ)) (old new : L
 
 abbrev pub AgreesWhole : Role → Answer (Yaml × ℕ) → List ℕ → List ℕ → ℕ → Whole → Type 0
 AgreesWhole role answer old new at (Read used key) = WroteWhole role answer old new at used key
-AgreesWhole role answer old new at (Stopped e) = answer ≡ refusal e
+AgreesWhole role answer old new at (Stopped e) = Refuses answer old new at e
