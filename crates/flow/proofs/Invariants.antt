@@ -4,14 +4,13 @@ use mathlib.Core.Logic.{⊎-elim}
 use Prim.Native.Nat.{ℕ, suc, _+_, _-_, _≤_, _<_}
 use native.Mathlib.Numerals.{add-one}
 use native.Mathlib.Omega.{arith}
-use mathlib.Core.List.{List, _∷_, _++_, append-assoc, append-nil}
+use mathlib.Core.List.{List, [], _∷_, _++_, append-assoc, append-nil}
 use mathlib.Core.Bool.{Bool, true, false, not}
 use lib.Dec.{ltb}
-use lib.ListN.{length, drop, take, getD, length-append, length-drop, drop-of-length-le}
-use lib.Seq.{sets, length-sets, sets-eq, drop-cons, drop-drop, drop-at, take-at, length-take-le}
+use lib.ListN.{length, set, drop, take, getD, length-append, length-drop, drop-of-length-le}
+use lib.Seq.{sets, length-sets, sets-eq, drop-cons, drop-drop, drop-at, take-at, take-take, take-set-le, length-take-le}
 use borrow.Author.Tests.{lt-ltb, le-ltb, eq-eqb, ne-eqb}
-use Rattle.refusal.specs.Base.{Answer, refused, _>>=_, _>>_, ensure, ch}
-use Rattle.refusal.specs.Told.{toldOf, refusal}
+use Rattle.refusal.specs.Base.{Answer, _>>=_, _>>_, ensure, ch}
 use Rattle.item.specs.Tree.{Yaml, seq, dict, Items, end, _▸_, _◂_, noItem, Entries, done, pair, add, noEntry, hasKey}
 use Rattle.item.specs.Encode.{head, item, encode}
 use Rattle.item.proofs.Size.{encode-long, head-length, item-length}
@@ -21,9 +20,10 @@ use Rattle.scalar.specs.declared.Role.{Role}
 use Rattle.scalar.specs.declared.Role.the-variants.{AsValue, AsKey}
 use Rattle.scalar.specs.Read.{Got, Reader, stop}
 use Rattle.refusal.specs.declared.Refusal.{Refusal}
+use Rattle.refusal.specs.declared.Refusal.the-variants.{FlowMappingOpen, FlowSequenceOpen, KeyTwice, StuckSequence}
 use Rattle.scalar.specs.declared.Parsed.{Parsed}
 use Rattle.scalar.specs.declared.Parsed.the-variants.{Done, Refused}
-use Rattle.scalar.specs.Contract.{written, isKey, WroteValue, AgreesParsed}
+use Rattle.scalar.specs.Contract.{written, isKey, Refuses, WroteValue, AgreesParsed}
 use Rattle.flow.specs.declared.PairRead.{PairRead}
 use Rattle.flow.specs.declared.PairRead.the-variants.{Done as Took, Refused as Stopped}
 use Rattle.flow.specs.Flow.{stuck, items, entries, fresh, value}
@@ -71,6 +71,15 @@ headed k old out new c at p b u w =
     let e : p - at - 6 ≡ length c = omega arith in
     w ∙ rw (e, b)
     (ap (λ (m : ℕ). sets (sets old (at + m) c) at (head k (length c))) (sym (head-length k (length c))) ∙ sets-before (head k (length c)) c old at)
+
+-- a run of stores keeps what stands before it
+pub kept-before : (n : ℕ) (l : List ℕ) (i : ℕ) (vs : List ℕ) → n ≤ i → take n (sets l i vs) ≡ take n l
+kept-before n l i [] h = refl
+kept-before n l i (v ∷ vs) h = kept-before n (set l i v) (suc i) vs (omega arith) ∙ take-set-le n l i v h
+
+-- where the bytes in front of a place are kept, so are those in front of an earlier one
+pub kept-less : (m n : ℕ) (old new : List ℕ) → m ≤ n → take n new ≡ take n old → take m new ≡ take m old
+kept-less m n old new h e = sym (take-take m n new h) ∙ ap (take m) e ∙ take-take m n old h
 
 -- the rest of a line from a place on
 pub next : (s : List ℕ) (i : ℕ) → i < length s → drop i s ≡ getD s i 0 ∷ drop (i + 1) s
@@ -122,9 +131,12 @@ module _ (s : List ℕ) (start levels n : ℕ) (old : List ℕ) (at : ℕ) (out 
       first-most end = omega arith
       first-most (y ▸ ys) = omega arith
 
-  pub list-open : length s ≤ i → sequenceOf cap n levels at (drop start s) ≡ refused 10 n 0
+  listed-keeps : take at out ≡ take at old
+  listed-keeps = ap (take at) (v .bytes) ∙ kept-before at old (at + 6) (encode (v .got)) (omega arith)
+
+  pub list-open : length s ≤ i → Refuses (sequenceOf cap n levels at (drop start s)) old out at (FlowSequenceOpen n)
   unfolding sequenceOf _>>=_ stop
-  list-open h = rw (v .same, drop-of-length-le s {i = i} h, items-none cap n inside 1 (v .got) p)
+  list-open h = record { is = rw (v .same, drop-of-length-le s {i = i} h, items-none cap n inside 1 (v .got) p); kept = listed-keeps }
 
   module _ (h : i < length s) (sep : separates (ltb (at + 6) p) (getD s i 0) ≡ false) where
     sep-got : separates (not (noItem (v .got))) (getD s i 0) ≡ false
@@ -149,11 +161,11 @@ module _ (s : List ℕ) (start levels n : ℕ) (old : List ℕ) (at : ℕ) (out 
         }
 
     module _ (c : getD s i 0 ≡ ch "]" → ⊥) where
-      pub list-stuck : stuck (getD s i 0) (drop (i + 1) s) ≡ true → sequenceOf cap n levels at (drop start s) ≡ refused 19 n 0
+      pub list-stuck : stuck (getD s i 0) (drop (i + 1) s) ≡ true → Refuses (sequenceOf cap n levels at (drop start s)) old out at (StuckSequence n)
       unfolding sequenceOf _>>=_ stop
       list-stuck e =
           let k = items-stuck cap n inside (value-takes cap n levels true) (suc (length (drop (i + 1) s))) p (getD s i 0) (drop (i + 1) s) (v .got) sep-got (ne-eqb (getD s i 0) (ch "]") c) e in
-          rw (v .same, here 0, k)
+          record { is = rw (v .same, here 0, k); kept = listed-keeps }
 
       module _ (e : stuck (getD s i 0) (drop (i + 1) s) ≡ false) where
         one-item : items cap n inside (suc (length (drop i s))) (v .got) p (drop i s)
@@ -163,9 +175,10 @@ module _ (s : List ℕ) (start levels n : ℕ) (old : List ℕ) (at : ℕ) (out 
             ∙ items-item cap n inside (value-takes cap n levels true) (suc (length (drop (i + 1) s))) p (getD s i 0) (drop (i + 1) s) (v .got) sep-got (ne-eqb (getD s i 0) (ch "]") c) e
             ∙ ap (λ (l : List ℕ). inside AsValue p l >>= λ x. items cap n inside (suc (length (drop (i + 1) s))) (v .got ◂ x .0) (x .1) (x .2)) (sym (next s i h))
 
-        pub list-refused : (k l q : ℕ) → inside AsValue p (drop i s) ≡ refused k l q → sequenceOf cap n levels at (drop start s) ≡ refused k l q
+        list-refused : (new : List ℕ) (z : Refusal) → Refuses (inside AsValue p (drop i s)) out new p z → Refuses (sequenceOf cap n levels at (drop start s)) old new at z
         unfolding sequenceOf _>>=_
-        list-refused k l q r = rw (v .same, one-item, r)
+        list-refused new z r =
+            record { is = rw (v .same, one-item, r .is); kept = kept-less at p out new (omega (arith, v .used)) (r .kept) ∙ listed-keeps }
 
         module _ (new : List ℕ) (j q : ℕ) (key : Bool) (w : WroteValue AsValue (inside AsValue p (drop i s)) s out new p j q key) where
           takes : Takes cap n inside
@@ -213,7 +226,8 @@ pub wrote-is : (role : Role) (x : Answer (Got Yaml)) (s old new : List ℕ) (at 
     → WroteValue role x s old new at j u key
 wrote-is role x s old new at r w j u key e = subst (AgreesParsed role x s old new at) e w
 
-pub refused-is : (role : Role) (x : Answer (Got Yaml)) (s old new : List ℕ) (at : ℕ) (r : Parsed) → AgreesParsed role x s old new at r → (z : Refusal) → r ≡ Refused z → x ≡ refusal z
+pub refused-is : (role : Role) (x : Answer (Got Yaml)) (s old new : List ℕ) (at : ℕ) (r : Parsed) → AgreesParsed role x s old new at r → (z : Refusal) → r ≡ Refused z
+    → Refuses x old new at z
 refused-is role x s old new at r w z e = subst (AgreesParsed role x s old new at) e w
 
 module _ (s : List ℕ) (start levels n : ℕ) (old : List ℕ) (at : ℕ) (out : List ℕ) (i p : ℕ) (v : Listed s start levels n old at out i p)
@@ -222,8 +236,8 @@ module _ (s : List ℕ) (start levels n : ℕ) (old : List ℕ) (at : ℕ) (out 
   with-cap : AgreesParsed AsValue (value (length old) n levels true AsValue p (drop i s)) s out new p r
   with-cap = subst (λ (k : ℕ). AgreesParsed AsValue (value k n levels true AsValue p (drop i s)) s out new p r) (v .kept) w
 
-  pub list-stops : (z : Refusal) → r ≡ Refused z → sequenceOf (length old) n levels at (drop start s) ≡ refusal z
-  list-stops z q = list-refused s start levels n old at out i p v h sep c e (toldOf z .number) (toldOf z .line) (toldOf z .step) (refused-is AsValue _ s out new p r with-cap z q)
+  pub list-stops : (z : Refusal) → r ≡ Refused z → Refuses (sequenceOf (length old) n levels at (drop start s)) old new at z
+  list-stops z q = list-refused s start levels n old at out i p v h sep c e new z (refused-is AsValue _ s out new p r with-cap z q)
 
   module _ (j u : ℕ) (key : Bool) (q : r ≡ Done j u key) where
     got-item : WroteValue AsValue (value (length old) n levels true AsValue p (drop i s)) s out new p j u key
@@ -282,9 +296,12 @@ module _ (s : List ℕ) (start levels n : ℕ) (old : List ℕ) (at : ℕ) (out 
         within = w;
       }
 
-  pub map-open : length s ≤ i → mappingOf mcap n levels at (drop start s) ≡ refused 9 n 0
+  mapped-keeps : take at out ≡ take at old
+  mapped-keeps = ap (take at) (v .bytes) ∙ kept-before at old (at + 6) (encode (v .got)) (omega arith)
+
+  pub map-open : length s ≤ i → Refuses (mappingOf mcap n levels at (drop start s)) old out at (FlowMappingOpen n)
   unfolding mappingOf _>>=_ stop
-  map-open h = rw (v .same, drop-of-length-le s {i = i} h, entries-none mcap n minside 1 (v .got) p)
+  map-open h = record { is = rw (v .same, drop-of-length-le s {i = i} h, entries-none mcap n minside 1 (v .got) p); kept = mapped-keeps }
 
   module _ (h : i < length s) (sep : separates (ltb (at + 6) p) (getD s i 0) ≡ false) where
     msep : separates (not (noEntry (v .got))) (getD s i 0) ≡ false
@@ -318,9 +335,10 @@ module _ (s : List ℕ) (start levels n : ℕ) (old : List ℕ) (at : ℕ) (out 
           ∙ ap (λ (l : List ℕ). entryOf mcap n minside p l
           >>= λ x. fresh mcap n (x .0 .0) (v .got) >> entries mcap n minside (suc (length (drop (i + 1) s))) (add (v .got) (x .0 .0) (x .0 .1)) (x .1) (x .2)) (sym (next s i h))
 
-      pub map-refused : (k l q : ℕ) → entryOf mcap n minside p (drop i s) ≡ refused k l q → mappingOf mcap n levels at (drop start s) ≡ refused k l q
+      map-refused : (new : List ℕ) (z : Refusal) → Refuses (entryOf mcap n minside p (drop i s)) out new p z → Refuses (mappingOf mcap n levels at (drop start s)) old new at z
       unfolding mappingOf _>>=_
-      map-refused k l q r = rw (v .same, one-entry, r)
+      map-refused new z r =
+          record { is = rw (v .same, one-entry, r .is); kept = kept-less at p out new (omega (arith, v .used)) (r .kept) ∙ mapped-keeps }
 
       module _ (new : List ℕ) (j e q : ℕ) (w : WrotePair (entryOf mcap n minside p (drop i s)) s out new i p j e q) where
         all : List ℕ
@@ -360,9 +378,9 @@ module _ (s : List ℕ) (start levels n : ℕ) (old : List ℕ) (at : ℕ) (out 
         abbrev has : Bool
         has = hasKey (w .key) (v .got)
 
-        pub map-twice : has ≡ true → mappingOf mcap n levels at (drop start s) ≡ refused 18 n 0
+        map-twice : has ≡ true → Refuses (mappingOf mcap n levels at (drop start s)) old new at (KeyTwice n)
         unfolding mappingOf _>>=_ _>>_ fresh ensure
-        map-twice t = rw (v .same, one-entry, w .is, t)
+        map-twice t = record { is = rw (v .same, one-entry, w .is, t); kept = ap (take at) new-is ∙ kept-before at old (at + 6) all (omega arith) }
 
         pub mapped-next : has ≡ false → Mapped s start levels n old at new j q
         unfolding all _>>=_ _>>_ fresh ensure
@@ -386,9 +404,9 @@ module _ (s : List ℕ) (start levels n : ℕ) (old : List ℕ) (at : ℕ) (out 
   entry-cap : AgreesPair (entryOf (length old) n (value (length old) n levels true) p (drop i s)) s out new i p r
   entry-cap = subst (λ (k : ℕ). AgreesPair (entryOf k n (value k n levels true) p (drop i s)) s out new i p r) (v .kept) w
 
-  pub map-stops : (z : Refusal) → r ≡ Stopped z → mappingOf (length old) n levels at (drop start s) ≡ refusal z
+  pub map-stops : (z : Refusal) → r ≡ Stopped z → Refuses (mappingOf (length old) n levels at (drop start s)) old new at z
   map-stops z q =
-      map-refused s start levels n old at out i p v h sep c (toldOf z .number) (toldOf z .line) (toldOf z .step)
+      map-refused s start levels n old at out i p v h sep c new z
       (subst (AgreesPair (entryOf (length old) n (value (length old) n levels true) p (drop i s)) s out new i p) q entry-cap)
 
   module _ (j e u : ℕ) (q : r ≡ Took j e u) where
@@ -402,7 +420,7 @@ module _ (s : List ℕ) (start levels n : ℕ) (old : List ℕ) (at : ℕ) (out 
           k (v .got) (entries-before s start levels n old at out i p v h sep c new j e u got-entry)
           ∙ ap (λ (l : List ℕ). hasKey l (v .got)) (key-bytes s start levels n old at out i p v h sep c new j e u got-entry)
 
-      pub map-again : found ≡ true → mappingOf (length old) n levels at (drop start s) ≡ refused 18 n 0
+      pub map-again : found ≡ true → Refuses (mappingOf (length old) n levels at (drop start s)) old new at (KeyTwice n)
       map-again t = map-twice s start levels n old at out i p v h sep c new j e u got-entry (sym has-is ∙ t)
 
       pub map-on : found ≡ false → Mapped s start levels n old at new j u

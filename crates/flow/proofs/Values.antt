@@ -7,12 +7,12 @@ use mathlib.Core.List.{List, _∷_}
 use mathlib.Core.Bool.{Bool, true, false, _||_, false≢true}
 use mathlib.Core.Option.{none, some}
 use lib.Dec.{eqb}
-use lib.ListN.{length, drop, getD, length-drop, drop-of-length-le}
+use lib.ListN.{length, take, drop, getD, length-drop, drop-of-length-le}
 use lib.Seq.{sets, length-sets}
 use borrow.Author.Tests.{eq-eqb, ne-eqb, le-leb, lt-leb}
 use Rattle.refusal.specs.Base.{Answer, good, refused, _>>=_, given, if_then_else_, ch}
-use Rattle.refusal.specs.Told.{toldOf, refusal}
 use Rattle.refusal.specs.declared.Refusal.{Refusal}
+use Rattle.refusal.specs.declared.Refusal.the-variants.{KeyNotScalar, KeyWithoutColon}
 use Rattle.item.specs.Tree.{Yaml, null, bool, int, str, seq, dict}
 use Rattle.item.specs.Encode.{item, encode}
 use Rattle.item.proofs.Size.{item-length}
@@ -23,16 +23,16 @@ use Rattle.scalar.specs.declared.Parsed.{Parsed}
 use Rattle.scalar.specs.declared.Parsed.the-variants.{Done, Refused}
 use Rattle.scalar.specs.Scalars.{keyText, boolText, intText}
 use Rattle.scalar.specs.Read.{Got, charge, stop, scalar, skipSpaces, endsItem, endsColon, string, doubleQuoted, singleQuoted, plain}
-use Rattle.scalar.specs.Contract.{written, isKey, WroteValue, AgreesParsed}
+use Rattle.scalar.specs.Contract.{written, isKey, Refuses, WroteValue, AgreesParsed}
 use Rattle.flow.specs.Flow.{behindColon, entryValue, flowSeq, flowMap, node, value}
 use Rattle.flow.specs.Contract.{separates, skipSeparators, levelsInside, sequenceOf, mappingOf, entryOf, WrotePair}
 use Rattle.flow.proofs.Progress.{Takes, value-takes, entryValue-le}
-use Rattle.flow.proofs.Invariants.{next, wrote-is, refused-is}
+use Rattle.flow.proofs.Invariants.{kept-before, kept-less, next, wrote-is, refused-is}
 
 pub agrees-of : (role : Role) (x y : Answer (Got Yaml)) (s old new : List ℕ) (at : ℕ) (r : Parsed) → x ≡ y → AgreesParsed role y s old new at r → AgreesParsed role x s old new at r
 agrees-of role x y s old new at (Done n u k) e w =
     record { tree = w .tree; is = e ∙ w .is; bytes = w .bytes; grows = w .grows; fits = w .fits; forward = w .forward; keyed = w .keyed }
-agrees-of role x y s old new at (Refused z) e w = e ∙ w
+agrees-of role x y s old new at (Refused z) e w = record { is = e ∙ w .is; kept = w .kept }
 
 value-node : (cap n levels : ℕ) (inFlow : Bool) (role : Role) (sum : ℕ) (bs : List ℕ) → value cap n levels inFlow role sum bs ≡ node cap n (levelsInside cap n levels) inFlow role sum bs
 unfolding value levelsInside
@@ -190,36 +190,39 @@ module _ (s : List ℕ) (i n levels : ℕ) (old : List ℕ) (at : ℕ) where
   abbrev whole : Answer (Got (List ℕ × Yaml))
   whole = entryOf ecap n (value ecap n levels true) at (drop i s)
 
-  pub entry-refused : (k l q : ℕ) → value ecap n levels true AsKey at (drop i s) ≡ refused k l q → whole ≡ refused k l q
+  pub entry-refused : (new : List ℕ) (z : Refusal) → Refuses (value ecap n levels true AsKey at (drop i s)) old new at z → Refuses whole old new at z
   unfolding entryOf _>>=_
-  entry-refused k l q e = rw e
+  entry-refused new z e = record { is = rw (e .is); kept = e .kept }
 
   module _ (mid : List ℕ) (j u : ℕ) (key : Bool) (w : WroteValue AsKey (value ecap n levels true AsKey at (drop i s)) s old mid at j u key) where
-    pub entry-unnamed : key ≡ false → whole ≡ refused 16 n 0
+    mid-keeps : take at mid ≡ take at old
+    mid-keeps = ap (take at) (w .bytes) ∙ kept-before at old at (written AsKey (w .tree)) (omega arith)
+
+    pub entry-unnamed : key ≡ false → Refuses whole old mid at (KeyNotScalar n)
     unfolding entryOf _>>=_ given
-    entry-unnamed e = rw (w .is, unnamed (w .tree) (sym (w .keyed) ∙ e))
+    entry-unnamed e = record { is = rw (w .is, unnamed (w .tree) (sym (w .keyed) ∙ e)); kept = mid-keeps }
 
     module _ (k : key ≡ true) (c : ℕ) (sk : drop c s ≡ skipSpaces (drop j s)) where
       nm : Named (w .tree)
       nm = named (w .tree) (sym (w .keyed) ∙ k)
 
-      pub entry-ends : length s ≤ c → whole ≡ refused 17 n 0
+      pub entry-ends : length s ≤ c → Refuses whole old mid at (KeyWithoutColon n)
       unfolding entryOf _>>=_ given behindColon stop
-      entry-ends h = rw (w .is, nm .says, ← sk, drop-of-length-le s {i = c} h)
+      entry-ends h = record { is = rw (w .is, nm .says, ← sk, drop-of-length-le s {i = c} h); kept = mid-keeps }
 
       module _ (h : c < length s) where
-        pub entry-colonless : (getD s c 0 ≡ ch ":" → ⊥) → whole ≡ refused 17 n 0
+        pub entry-colonless : (getD s c 0 ≡ ch ":" → ⊥) → Refuses whole old mid at (KeyWithoutColon n)
         unfolding entryOf _>>=_ given behindColon stop if_then_else_
-        entry-colonless e = rw (w .is, nm .says, ← sk, next s c h, ne-eqb (getD s c 0) (ch ":") e)
+        entry-colonless e = record { is = rw (w .is, nm .says, ← sk, next s c h, ne-eqb (getD s c 0) (ch ":") e); kept = mid-keeps }
 
         module _ (e : getD s c 0 ≡ ch ":") (d : ℕ) (sd : drop d s ≡ skipSpaces (drop (c + 1) s)) where
           to-value : whole ≡ (entryValue ecap n (value ecap n levels true) u (drop d s) >>= λ v. good ((nm .name, v .0), v .1, v .2))
           unfolding entryOf _>>=_ given behindColon if_then_else_
           to-value = rw (w .is, nm .says, ← sk, next s c h, e, sd)
 
-          entry-stops : (x l q : ℕ) → entryValue ecap n (value ecap n levels true) u (drop d s) ≡ refused x l q → whole ≡ refused x l q
+          entry-stops : (new : List ℕ) (z : Refusal) → Refuses (entryValue ecap n (value ecap n levels true) u (drop d s)) mid new u z → Refuses whole old new at z
           unfolding _>>=_
-          entry-stops x l q r = to-value ∙ rw r
+          entry-stops new z r = record { is = to-value ∙ rw (r .is); kept = kept-less at u mid new (omega (arith, w .grows)) (r .kept) ∙ mid-keeps }
 
           entry-done : i ≤ length s → j ≤ c → c < d → d ≤ length s → (new : List ℕ) (m t : ℕ) (key′ : Bool) → WroteValue AsValue (entryValue ecap n (value ecap n levels true) u (drop d s)) s mid new u m t key′
               → WrotePair whole s old new i at m u t
@@ -251,8 +254,8 @@ module _ (s : List ℕ) (i n levels : ℕ) (old : List ℕ) (at : ℕ) where
             with-old : AgreesParsed AsValue (entryValue ecap n (value ecap n levels true) u (drop d s)) s mid new u r
             with-old = subst (λ (k : ℕ). AgreesParsed AsValue (entryValue k n (value k n levels true) u (drop d s)) s mid new u r) mid-long x
 
-            pub entry-halts : (z : Refusal) → r ≡ Refused z → whole ≡ refusal z
-            entry-halts z q = entry-stops (toldOf z .number) (toldOf z .line) (toldOf z .step) (refused-is AsValue _ s mid new u r with-old z q)
+            pub entry-halts : (z : Refusal) → r ≡ Refused z → Refuses whole old new at z
+            entry-halts z q = entry-stops new z (refused-is AsValue _ s mid new u r with-old z q)
 
             pub entry-reads : i ≤ length s → j ≤ c → c < d → d ≤ length s → (m t : ℕ) (key′ : Bool) → r ≡ Done m t key′ → WrotePair whole s old new i at m u t
             entry-reads wi jc cd dl m t key′ q = entry-done wi jc cd dl new m t key′ (wrote-is AsValue _ s mid new u r with-old m t key′ q)

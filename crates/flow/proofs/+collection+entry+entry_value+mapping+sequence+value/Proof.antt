@@ -1,13 +1,12 @@
 -- The readers of a value, an entry and the two collections, which call each other: the levels fall. Each return is a law of `Invariants` or `Values`. Assumes nothing.
 use borrow.Author.Needs.{needs}
-use mathlib.Core.Path.{sym, _∙_}
+use mathlib.Core.Path.{refl, sym, _∙_}
 use Prim.Native.Nat.{ℕ, _+_, _*_, _-_, _<_}
 use native.Mathlib.Omega.{arith}
 use lib.ListN.{length}
 use mathlib.Core.Logic.{inl, inr}
 use Rattle.scalar.specs.declared.Role.the-variants.{AsValue, AsKey}
 use borrow.Author.Tests.{not-true, not-false}
-use Rattle.refusal.specs.Told.{toldOf}
 use Rattle.flow.proofs.Invariants.{Listed, Mapped, listed-start, listed-at, list-open, list-close, list-stuck, list-stops, list-on, list-falls, mapped-start, mapped-at, map-open, map-close, map-stops, got-entry, map-again, map-on, wrote-is, refused-is}
 use Rattle.flow.proofs.Values.{agrees-of, value-end, value-double, value-single, value-anchor, value-alias, value-tag, value-plain, value-deep, value-full, value-mapping, value-sequence, value-last, value-comma, value-brace, value-there, entry-refused, entry-unnamed, entry-ends, entry-colonless, entry-halts, entry-reads}
 use borrow.Fn.Kinds.{In}
@@ -104,12 +103,12 @@ value-below t = and 2 value-kinds.ps (falls 2 value-kinds.ps _<_ μ-value t) val
 collection-returns : (t : ℕ) → collection-lts.Need-returns (mapping-below t, mapping.Post, sequence-below t, sequence.Post) (collection-at t) collection.Post
 collection-returns t c =
     let a = c .before .before .before .args in
-    λ inFlow role. value-deep (a .s .now) (a .i) (length (a .out .now)) (a .line) (a .levels) inFlow role (a .at) (c .before .before .before .pre .1 .0) (c .before .before .before .pre .1 .1) (c .if1 .taken)
+    λ inFlow role. record { is = value-deep (a .s .now) (a .i) (length (a .out .now)) (a .line) (a .levels) inFlow role (a .at) (c .before .before .before .pre .1 .0) (c .before .before .before .pre .1 .1) (c .if1 .taken); kept = refl }
 
 collection-returns-2 : (t : ℕ) → collection-lts.Need-returns-2 (mapping-below t, mapping.Post, sequence-below t, sequence.Post) (collection-at t) collection.Post
 collection-returns-2 t c =
     let a = c .before .before .before .before .args in
-    λ inFlow role. value-full (a .s .now) (a .i) (length (a .out .now)) (a .line) (a .levels) inFlow role (a .at) (c .before .before .before .before .pre .1 .0) (c .before .before .before .before .pre .1 .1) (c .before .if1 .left) (omega arith)
+    λ inFlow role. record { is = value-full (a .s .now) (a .i) (length (a .out .now)) (a .line) (a .levels) inFlow role (a .at) (c .before .before .before .before .pre .1 .0) (c .before .before .before .before .pre .1 .1) (c .before .if1 .left) (omega arith); kept = refl }
 
 collection-returns-3 : (t : ℕ) → collection-lts.Need-returns-3 (mapping-below t, mapping.Post, sequence-below t, sequence.Post) (collection-at t) collection.Post
 collection-returns-3 t c =
@@ -174,7 +173,7 @@ entry-returns-4 t c =
     let a = c .before .before .before .before .before .before .before .before .before .args in
     let r = c .before .before .before .before .before .value in
     let z = c .before .e .given .0 .0 in
-    entry-refused (a .s .now) (a .i) (a .line) (a .levels) (a .out .now) (a .at) (toldOf z .number) (toldOf z .line) (toldOf z .step) (refused-is AsKey _ (a .s .now) (a .out .now) _ (a .at) (r .result) (r .ensures) z (c .before .e .given .1))
+    entry-refused (a .s .now) (a .i) (a .line) (a .levels) (a .out .now) (a .at) _ z (refused-is AsKey _ (a .s .now) (a .out .now) _ (a .at) (r .result) (r .ensures) z (c .before .e .given .1))
 
 entry-returns-5 : (t : ℕ) → entry-lts.Need-returns-5 (value-below t, value.Post, skip-spaces-reads.Asked, skip-spaces-reads.Learnt, entry-value-below t, entry-value.Post) (entry-at t) entry.Post
 entry-returns-5 t c =
@@ -407,17 +406,17 @@ value-returns-5 t c =
 value-returns-6 : (t : ℕ) → value-lts.Need-returns-6 (null-at-reads.Asked, null-at-reads.Learnt, collection-below t, collection.Post, double-quoted-reads.Asked, double-quoted-reads.Learnt, single-quoted-reads.Asked, single-quoted-reads.Learnt, plain-reads.Asked, plain-reads.Learnt) (value-at t) value.Post
 value-returns-6 t c =
     let a = c .before .before .before .before .before .args in
-    value-anchor (a .s .now) (a .i) (length (a .out .now)) (a .line) (a .levels) (a .in-flow) (a .role) (a .at) (omega (arith, c .before .before .if1 .left)) (c .match .keys5)
+    record { is = value-anchor (a .s .now) (a .i) (length (a .out .now)) (a .line) (a .levels) (a .in-flow) (a .role) (a .at) (omega (arith, c .before .before .if1 .left)) (c .match .keys5); kept = refl }
 
 value-returns-7 : (t : ℕ) → value-lts.Need-returns-7 (null-at-reads.Asked, null-at-reads.Learnt, collection-below t, collection.Post, double-quoted-reads.Asked, double-quoted-reads.Learnt, single-quoted-reads.Asked, single-quoted-reads.Learnt, plain-reads.Asked, plain-reads.Learnt) (value-at t) value.Post
 value-returns-7 t c =
     let a = c .before .before .before .before .before .args in
-    value-alias (a .s .now) (a .i) (length (a .out .now)) (a .line) (a .levels) (a .in-flow) (a .role) (a .at) (omega (arith, c .before .before .if1 .left)) (c .match .keys6)
+    record { is = value-alias (a .s .now) (a .i) (length (a .out .now)) (a .line) (a .levels) (a .in-flow) (a .role) (a .at) (omega (arith, c .before .before .if1 .left)) (c .match .keys6); kept = refl }
 
 value-returns-8 : (t : ℕ) → value-lts.Need-returns-8 (null-at-reads.Asked, null-at-reads.Learnt, collection-below t, collection.Post, double-quoted-reads.Asked, double-quoted-reads.Learnt, single-quoted-reads.Asked, single-quoted-reads.Learnt, plain-reads.Asked, plain-reads.Learnt) (value-at t) value.Post
 value-returns-8 t c =
     let a = c .before .before .before .before .before .args in
-    value-tag (a .s .now) (a .i) (length (a .out .now)) (a .line) (a .levels) (a .in-flow) (a .role) (a .at) (omega (arith, c .before .before .if1 .left)) (c .match .keys7)
+    record { is = value-tag (a .s .now) (a .i) (length (a .out .now)) (a .line) (a .levels) (a .in-flow) (a .role) (a .at) (omega (arith, c .before .before .if1 .left)) (c .match .keys7); kept = refl }
 
 value-returns-9 : (t : ℕ) → value-lts.Need-returns-9 (null-at-reads.Asked, null-at-reads.Learnt, collection-below t, collection.Post, double-quoted-reads.Asked, double-quoted-reads.Learnt, single-quoted-reads.Asked, single-quoted-reads.Learnt, plain-reads.Asked, plain-reads.Learnt) (value-at t) value.Post
 value-returns-9 t c =
