@@ -7,7 +7,7 @@ use mathlib.Core.List.{List, _∷_}
 use mathlib.Core.Bool.{Bool, true, false, _||_, false≢true}
 use mathlib.Core.Option.{none, some}
 use lib.Dec.{eqb}
-use lib.ListN.{length, take, drop, getD, length-drop, drop-of-length-le}
+use lib.ListN.{length, take, drop, getD, length-append, length-drop, drop-of-length-le}
 use lib.Seq.{sets, length-sets}
 use borrow.Author.Tests.{eq-eqb, ne-eqb, le-leb, lt-leb}
 use Rattle.refusal.specs.Base.{Answer, good, refused, _>>=_, given, if_then_else_, ch}
@@ -15,7 +15,6 @@ use Rattle.refusal.specs.declared.Refusal.{Refusal}
 use Rattle.refusal.specs.declared.Refusal.the-variants.{KeyNotScalar, KeyWithoutColon}
 use Rattle.item.specs.Tree.{Yaml, null, bool, int, str, seq, dict}
 use Rattle.item.specs.Encode.{item, encode}
-use Rattle.item.proofs.Size.{item-length}
 use Rattle.item.proofs.Runs.{sets-append}
 use Rattle.scalar.specs.declared.Role.{Role}
 use Rattle.scalar.specs.declared.Role.the-variants.{AsValue, AsKey}
@@ -25,7 +24,7 @@ use Rattle.scalar.specs.Scalars.{keyText, boolText, intText}
 use Rattle.scalar.specs.Read.{Got, charge, stop, scalar, skipSpaces, endsItem, endsColon, string, doubleQuoted, singleQuoted, plain}
 use Rattle.scalar.specs.Contract.{written, isKey, Refuses, WroteValue, AgreesParsed}
 use Rattle.flow.specs.Flow.{behindColon, entryValue, flowSeq, flowMap, node, value}
-use Rattle.flow.specs.Contract.{separates, skipSeparators, levelsInside, sequenceOf, mappingOf, entryOf, WrotePair}
+use Rattle.flow.specs.Contract.{separates, skipSeparators, levelsInside, sequenceOf, entriesOf, mappingOf, entryOf, WrotePair}
 use Rattle.flow.proofs.Progress.{Takes, value-takes, entryValue-le}
 use Rattle.flow.proofs.Invariants.{kept-before, kept-less, next, wrote-is, refused-is}
 
@@ -107,7 +106,7 @@ module _ (cap n sum : ℕ) (bs : List ℕ) where
 
   opens : (levels : ℕ) → (levels ≡ 0 → ⊥) → sum + 6 ≤ cap
       → (flowSeq cap n (levelsInside cap n levels) sum bs ≡ sequenceOf cap n (levels - 1) sum bs) × (flowMap cap n (levelsInside cap n levels) sum bs ≡ mappingOf cap n (levels - 1) sum bs)
-  unfolding flowSeq flowMap levelsInside charge if_then_else_ _>>=_ sequenceOf mappingOf
+  unfolding flowSeq flowMap levelsInside charge if_then_else_ _>>=_ sequenceOf entriesOf mappingOf
   opens zero z h = absurd (z refl)
   opens (suc levels) z h = let e : suc levels - 1 ≡ levels = omega arith in (rw (le-leb (sum + 6) cap h, e), rw (le-leb (sum + 6) cap h, e))
 
@@ -225,13 +224,12 @@ module _ (s : List ℕ) (i n levels : ℕ) (old : List ℕ) (at : ℕ) where
           entry-stops new z r = record { is = to-value ∙ rw (r .is); kept = kept-less at u mid new (omega (arith, w .grows)) (r .kept) ∙ mid-keeps }
 
           entry-done : i ≤ length s → j ≤ c → c < d → d ≤ length s → (new : List ℕ) (m t : ℕ) (key′ : Bool) → WroteValue AsValue (entryValue ecap n (value ecap n levels true) u (drop d s)) s mid new u m t key′
-              → WrotePair whole s old new i at m u t
+              → WrotePair whole s old new i at m t
           unfolding _>>=_ written
           entry-done wi jc cd dl new m t key′ x =
               let tk : Takes ecap n (value ecap n levels true) = value-takes ecap n levels true in
               let l₁ : length (drop j s) ≤ length (drop i s) = tk .some-left AsKey at (drop i s) (w .tree, u, drop j s) (w .is) in
               let l₂ : length (drop m s) ≤ length (drop d s) = entryValue-le ecap n (value ecap n levels true) tk u (drop d s) (x .tree, t, drop m s) (x .is) in
-              let g : u ≡ at + (6 + length (nm .name)) = w .grows ∙ ap (λ (l : List ℕ). at + length l) (nm .put) ∙ ap (λ (k : ℕ). at + k) (item-length 3 (nm .name)) in
               let same : length mid ≡ length old = ap length (w .bytes) ∙ length-sets old at (written AsKey (w .tree)) in
               record {
                 key = nm .name;
@@ -240,8 +238,7 @@ module _ (s : List ℕ) (i n levels : ℕ) (old : List ℕ) (at : ℕ) where
                 bytes = x .bytes ∙ ap (λ (l : List ℕ). sets l u (encode (x .tree))) (w .bytes ∙ ap (sets old at) (nm .put))
                     ∙ ap (λ (k : ℕ). sets (sets old at (item 3 (nm .name))) k (encode (x .tree))) (w .grows ∙ ap (λ (l : List ℕ). at + length l) (nm .put))
                     ∙ sets-append (item 3 (nm .name)) (encode (x .tree)) old at;
-                ends = omega arith;
-                grows = x .grows;
+                grows = rw length-append (omega (arith, w .grows, x .grows, ap length (nm .put)));
                 fits = omega (arith, x .fits);
                 on = omega (arith, length-drop i s, length-drop j s, length-drop d s, length-drop m s, w .forward, x .forward);
                 forward = x .forward;
@@ -257,7 +254,7 @@ module _ (s : List ℕ) (i n levels : ℕ) (old : List ℕ) (at : ℕ) where
             pub entry-halts : (z : Refusal) → r ≡ Refused z → Refuses whole old new at z
             entry-halts z q = entry-stops new z (refused-is AsValue _ s mid new u r with-old z q)
 
-            pub entry-reads : i ≤ length s → j ≤ c → c < d → d ≤ length s → (m t : ℕ) (key′ : Bool) → r ≡ Done m t key′ → WrotePair whole s old new i at m u t
+            pub entry-reads : i ≤ length s → j ≤ c → c < d → d ≤ length s → (m t : ℕ) (key′ : Bool) → r ≡ Done m t key′ → WrotePair whole s old new i at m t
             entry-reads wi jc cd dl m t key′ q = entry-done wi jc cd dl new m t key′ (wrote-is AsValue _ s mid new u r with-old m t key′ q)
 
 -- ---- what stands between values
