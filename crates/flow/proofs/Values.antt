@@ -4,9 +4,8 @@ use mathlib.Core.Logic.{_⊎_, ⊎-elim}
 use Prim.Native.Nat.{ℕ, zero, suc, _+_, _-_, _≤_, _<_}
 use native.Mathlib.Omega.{arith}
 use mathlib.Core.List.{List, _∷_}
-use mathlib.Core.Bool.{Bool, true, false, _||_, false≢true}
+use mathlib.Core.Bool.{Bool, true, false, false≢true}
 use mathlib.Core.Option.{none, some}
-use lib.Dec.{eqb}
 use lib.ListN.{length, take, drop, getD, length-append, length-drop, drop-of-length-le}
 use lib.Seq.{sets, length-sets}
 use borrow.Author.Tests.{eq-eqb, ne-eqb, le-leb, lt-leb}
@@ -21,7 +20,7 @@ use Rattle.scalar.specs.declared.Role.the-variants.{AsValue, AsKey}
 use Rattle.scalar.specs.declared.Parsed.{Parsed}
 use Rattle.scalar.specs.declared.Parsed.the-variants.{Done, Refused}
 use Rattle.scalar.specs.Scalars.{keyText, boolText, intText}
-use Rattle.scalar.specs.Read.{Got, charge, stop, scalar, skipSpaces, endsItem, endsColon, string, doubleQuoted, singleQuoted, plain}
+use Rattle.scalar.specs.Read.{Got, charge, stop, scalar, skipSpaces, string, doubleQuoted, singleQuoted, plain}
 use Rattle.scalar.specs.Contract.{written, isKey, Refuses, WroteValue, AgreesParsed}
 use Rattle.flow.specs.Flow.{behindColon, entryValue, flowSeq, flowMap, node, value}
 use Rattle.flow.specs.Contract.{separates, skipSeparators, levelsInside, sequenceOf, entriesOf, mappingOf, entryOf, WrotePair}
@@ -284,15 +283,3 @@ module _ (s : List ℕ) (i : ℕ) where
     pub separators-on : (got : Bool) → separates got (getD s i 0) ≡ true → skipSeparators got (drop i s) ≡ skipSeparators got (drop (i + 1) s)
     unfolding skipSeparators if_then_else_
     separators-on got e = ap (skipSeparators got) (next s i h) ∙ rw e
-
--- ---- where plain text stops, and a sequence is stuck
-
-module _ (s : List ℕ) (i : ℕ) where
-  pub colon-end : i ≡ length s → endsColon (drop i s) ≡ true
-  unfolding endsColon
-  colon-end e = rw (drop-of-length-le s {i = i} (omega arith))
-
-  module _ (h : i < length s) where
-    pub colon-at : endsColon (drop i s) ≡ eqb (getD s i 0) (ch " ") || endsItem (getD s i 0)
-    unfolding endsColon
-    colon-at = rw (next s i h)
