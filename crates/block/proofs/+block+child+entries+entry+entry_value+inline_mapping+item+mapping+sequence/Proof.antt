@@ -4,7 +4,6 @@ use mathlib.Core.Path.{_≡_, refl, sym, ap, _∙_, subst}
 use Prim.Native.Nat.{ℕ, suc, _+_, _*_, _-_, _≤_, _<_, _^_}
 use native.Mathlib.Omega.{arith}
 use lib.ListN.{length, drop}
-use Rattle.refusal.specs.Base.{refused}
 use Rattle.utf8.specs.White.{trim, trimStart}
 use Rattle.lines.specs.Table.{tableLines, lineAt, startAt, numberAt}
 use Rattle.lines.proofs.Rows.{rows-end, in-lines, in-table, rows-next, entry-inside}
@@ -401,7 +400,7 @@ entries-returns-2 t c =
     let k = found-at (keyHere (a .indent) (drop (l .i) ls)) (split .given .0 .0) (sym (split .given .1) ∙ l .inv .1) in
     let h = key-there text table (a .count) (l .i) (a .indent) (split .given .0 .0) (l .inv .0 .within′) k in
     let w = entry-done _ _ ls (l .i + 1) (l .out) _ (l .p) (entry-as text table (a .count) (l .i) h (x .result) (x .ensures) (a .indent) (split .given .0 .0) k (length (l .out)) cap (a .levels) (l .p) (l .inv .0 .kept)) (entry′ .result) (entry′ .ensures) (next .given .0 .0) (next .given .0 .1 .0) (next .given .0 .1 .1 .0) (next .given .1) in
-    map-twice ls (a .first) (a .indent) (a .levels) (a .out .now) (a .at) (l .out) (l .i) (l .p) (l .inv .0) (lineAt text table (l .i)) (drop (l .i + 1) ls) (rows-next text table (a .count) (l .i) h) (split .given .0 .0) k _ (next .given .0 .0) (next .given .0 .1 .0) (next .given .0 .1 .1 .0) w (has-key′ .result) (has-key′ .ensures) (if1 .taken) ∙ ap (λ (n : ℕ). refused 18 n 0) (sym (x .ensures .number′))
+    map-twice ls (a .first) (a .indent) (a .levels) (a .out .now) (a .at) (l .out) (l .i) (l .p) (l .inv .0) (lineAt text table (l .i)) (drop (l .i + 1) ls) (rows-next text table (a .count) (l .i) h) (split .given .0 .0) k _ (next .given .0 .0) (next .given .0 .1 .0) (next .given .0 .1 .1 .0) w (has-key′ .result) (has-key′ .ensures) (if1 .taken) (x .result .number) (x .ensures .number′)
 
 entries-key-at-requires : (t : ℕ) → entries-lts.Need-key-at-requires (entry-at-reads.Asked, entry-at-reads.Learnt, entry-below t, entry.Post, has-key-reads.Asked, has-key-reads.Learnt, key-at-reads.Asked, key-at-reads.Learnt) (entries-at t) entries.Post entries-Inv-loop entries-μ-loop
 entries-key-at-requires t c κs =
@@ -617,7 +616,7 @@ inline-mapping-returns t c =
     let ls = tableLines text table (a .count) in
     let cap = length (a .out .now) in
     let if1 = c .if1 in
-    inline-full cap (within cap (a .levels)) (numberAt table (a .i)) (columnAt table (a .i) (a .from)) (textAt text table (a .i) (a .from)) (a .split) (a .at) (drop (a .i + 1) ls) (omega (arith, if1 .taken))
+    inline-full (a .out .now) (within cap (a .levels)) (numberAt table (a .i)) (columnAt table (a .i) (a .from)) (textAt text table (a .i) (a .from)) (a .split) (a .at) (drop (a .i + 1) ls) (omega (arith, if1 .taken))
 
 inline-mapping-entry-requires : (t : ℕ) → inline-mapping-lts.Need-entry-requires (entry-at-reads.Asked, entry-at-reads.Learnt, entry-below t, entry.Post, key-at-reads.Asked, key-at-reads.Learnt, entries-below t, entries.Post, has-key-reads.Asked, has-key-reads.Learnt, put-header-reads.Asked, put-header-reads.Learnt) (inline-mapping-at t) inline-mapping.Post
 inline-mapping-entry-requires t c κs =
@@ -693,7 +692,7 @@ inline-mapping-returns-2 t c =
     let w = entry-done _ _ ls (a .i + 1) (a .out .now) _ (a .at + 6) refl (entry′ .result) (entry′ .ensures) (next .given .0 .0) (next .given .0 .1 .0) (next .given .0 .1 .1 .0) (next .given .1) in
     let later = subst (λ (k : ℕ). AgreesBlock (entriesOf cap (within cap (a .levels)) k (next .given .0 .1 .1 .0) (drop (next .given .0 .0) ls)) ls (next .given .0 .0) (entry′ .last .1 .1 .1 .1 .1 .1 .1 .0) (entries′ .last .1 .1 .1 .1 .1 .1 .1 .0) (next .given .0 .1 .1 .0) (entries′ .result)) (column-is text table (a .count) (a .i) (pre .1 .1) (x .result) (x .ensures) (a .from)) (subst (λ (k : ℕ). AgreesBlock (entriesOf k (within k (a .levels)) (x .result .indent + (a .from - x .result .start)) (next .given .0 .1 .1 .0) (drop (next .given .0 .0) ls)) ls (next .given .0 .0) (entry′ .last .1 .1 .1 .1 .1 .1 .1 .0) (entries′ .last .1 .1 .1 .1 .1 .1 .1 .0) (next .given .0 .1 .1 .0) (entries′ .result)) (entry′ .kept .1 .1 .1 .1 .1 .1 .1 .0) (entries′ .ensures)) in
     let d = block-done _ ls (next .given .0 .0) (entry′ .last .1 .1 .1 .1 .1 .1 .1 .0) (entries′ .last .1 .1 .1 .1 .1 .1 .1 .0) (next .given .0 .1 .1 .0) (entries′ .result) later (n .given .0 .0) (n .given .0 .1 .0) (n .given .1) in
-    inline-twice (within cap (a .levels)) (numberAt table (a .i)) (columnAt table (a .i) (a .from)) (textAt text table (a .i) (a .from)) (a .split) (a .at) (drop (a .i + 1) ls) (a .out .now) (omega (arith, if1 .left, pre .1 .3)) ls (a .i + 1) _ (next .given .0 .0) (next .given .0 .1 .0) (next .given .0 .1 .1 .0) w _ (n .given .0 .0) (n .given .0 .1 .0) d (has-key′ .result) (has-key′ .ensures) (if2 .taken) ∙ ap (λ (k : ℕ). refused 18 k 0) (sym (x .ensures .number′))
+    inline-twice (within cap (a .levels)) (numberAt table (a .i)) (columnAt table (a .i) (a .from)) (textAt text table (a .i) (a .from)) (a .split) (a .at) (drop (a .i + 1) ls) (a .out .now) (omega (arith, if1 .left, pre .1 .3)) ls (a .i + 1) _ (next .given .0 .0) (next .given .0 .1 .0) (next .given .0 .1 .1 .0) w _ (n .given .0 .0) (n .given .0 .1 .0) d (has-key′ .result) (has-key′ .ensures) (if2 .taken) (x .result .number) (x .ensures .number′)
 
 inline-mapping-sub-put-header : (t : ℕ) → inline-mapping-lts.Need-sub-put-header (entry-at-reads.Asked, entry-at-reads.Learnt, entry-below t, entry.Post, key-at-reads.Asked, key-at-reads.Learnt, entries-below t, entries.Post, has-key-reads.Asked, has-key-reads.Learnt, put-header-reads.Asked, put-header-reads.Learnt) (inline-mapping-at t) inline-mapping.Post
 inline-mapping-sub-put-header t c =
@@ -920,7 +919,7 @@ mapping-returns t c =
     let ls = tableLines text table (a .count) in
     let cap = length (a .out .now) in
     let if1 = c .if1 in
-    map-full cap (within cap (a .levels)) (a .indent) (a .at) (drop (a .i) ls) (omega (arith, if1 .taken))
+    map-full (a .out .now) (within cap (a .levels)) (a .indent) (a .at) (drop (a .i) ls) (omega (arith, if1 .taken))
 
 mapping-entries-requires : (t : ℕ) → mapping-lts.Need-entries-requires (entries-below t, entries.Post, put-header-reads.Asked, put-header-reads.Learnt) (mapping-at t) mapping.Post
 mapping-entries-requires t c κs =
@@ -1003,7 +1002,7 @@ sequence-returns t c =
     let ls = tableLines text table (a .count) in
     let cap = length (a .out .now) in
     let if1 = c .if1 in
-    list-full cap (within cap (a .levels)) (a .indent) (a .at) (drop (a .first) ls) (omega (arith, if1 .taken))
+    list-full (a .out .now) (within cap (a .levels)) (a .indent) (a .at) (drop (a .first) ls) (omega (arith, if1 .taken))
 
 sequence-loop-holds : (t : ℕ) → sequence-lts.Need-loop-holds (goes-on-reads.Asked, goes-on-reads.Learnt, item-below t, item.Post, put-header-reads.Asked, put-header-reads.Learnt) (sequence-at t) sequence.Post sequence-Inv-loop sequence-μ-loop
 sequence-loop-holds t c =
