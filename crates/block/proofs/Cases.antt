@@ -8,7 +8,6 @@ use mathlib.Core.Option.{Option, none, some}
 use lib.ListN.{length, take, drop}
 use borrow.Author.Tests.{lt-ltb, le-ltb, le-leb, lt-leb}
 use Rattle.refusal.specs.Base.{Answer, good, refused, _>>=_, given, maybe, if_then_else_, bytes, same, empty}
-use Rattle.refusal.specs.Told.{refusal}
 use Rattle.refusal.specs.declared.Refusal.{Refusal}
 use Rattle.utf8.specs.White.{trim}
 use Rattle.item.specs.Tree.{Shape, Node, Yaml, null}
@@ -16,6 +15,7 @@ use Rattle.lines.specs.Lines.{Line}
 use Rattle.lines.specs.Dash.{dashed}
 use Rattle.scalar.specs.Key.{keyEnd}
 use Rattle.scalar.specs.Read.{charge}
+use Rattle.scalar.specs.Contract.{Refuses}
 use Rattle.literal.specs.declared.BlockRead.{BlockRead}
 use Rattle.literal.specs.declared.BlockRead.the-variants.{Done, Refused}
 use Rattle.literal.specs.Literal.{Read, leaf, literal}
@@ -36,21 +36,21 @@ pub agrees-block : {s : Shape} (x y : Read (Node s)) (ls : List Line) (j i : ℕ
     → AgreesBlock y ls i old new at r → AgreesBlock x ls j old new at r
 agrees-block x y ls j i old new at (Done n u) e h w =
     record { tree = w .tree; is = e ∙ w .is; bytes = w .bytes; grows = w .grows; fits = w .fits; on = omega (arith, w .on); within = w .within }
-agrees-block x y ls j i old new at (Refused z) e h w = e ∙ w
+agrees-block x y ls j i old new at (Refused z) e h w = record { is = e ∙ w .is; kept = w .kept }
 
 -- what a callee's answer says in each arm of a `match` on it
 module _ {s : Shape} (x : Read (Node s)) (ls : List Line) (i : ℕ) (old new : List ℕ) (at : ℕ) (r : BlockRead) (w : AgreesBlock x ls i old new at r) where
   pub block-done : (n u : ℕ) → r ≡ Done n u → WroteBlock x ls i old new at n u
   block-done n u e = subst (AgreesBlock x ls i old new at) e w
 
-  pub block-stopped : (z : Refusal) → r ≡ Refused z → x ≡ refusal z
+  pub block-stopped : (z : Refusal) → r ≡ Refused z → Refuses x old new at z
   block-stopped z e = subst (AgreesBlock x ls i old new at) e w
 
 module _ (x : Answer (List ℕ × ℕ)) (old new : List ℕ) (at : ℕ) (r : KeyRead) (w : AgreesKey x old new at r) where
   pub key-done : (u : ℕ) → r ≡ Keyed u → WroteKey x old new at u
   key-done u e = subst (AgreesKey x old new at) e w
 
-  pub key-stopped : (z : Refusal) → r ≡ Unkeyed z → x ≡ refusal z
+  pub key-stopped : (z : Refusal) → r ≡ Unkeyed z → Refuses x old new at z
   key-stopped z e = subst (AgreesKey x old new at) e w
 
 module _ (x y : Read (List ℕ × Yaml)) (ls : List Line) (i : ℕ) (old new : List ℕ) (at : ℕ) (e : x ≡ y) (r : EntryRead) (w : AgreesEntry y ls i old new at r) where
@@ -59,8 +59,8 @@ module _ (x y : Read (List ℕ × Yaml)) (ls : List Line) (i : ℕ) (old new : L
       let v : WroteEntry y ls i old new at n k u = subst (AgreesEntry y ls i old new at) q w in
       record { key = v .key; tree = v .tree; is = e ∙ v .is; bytes′ = v .bytes′; ends = v .ends; grows = v .grows; fits = v .fits; on = v .on; within = v .within }
 
-  pub entry-stopped : (z : Refusal) → r ≡ Stopped z → x ≡ refusal z
-  entry-stopped z q = e ∙ subst (AgreesEntry y ls i old new at) q w
+  pub entry-stopped : (z : Refusal) → r ≡ Stopped z → Refuses x old new at z
+  entry-stopped z q = let v : Refuses y old new at z = subst (AgreesEntry y ls i old new at) q w in record { is = e ∙ v .is; kept = v .kept }
 
 pub within-levels : (cap n : ℕ) → within cap n .levels ≡ n
 unfolding within insideOf

@@ -3,27 +3,34 @@ use mathlib.Core.Path.{_≡_, refl, sym, ap, _∙_}
 use Prim.Native.Nat.{ℕ, zero, suc, _+_, _-_, _≤_, _<_}
 use native.Mathlib.Omega.{arith}
 use mathlib.Core.List.{List, [], _∷_, _++_, append-assoc}
-use mathlib.Core.Bool.{Bool, true, false}
+use mathlib.Core.Bool.{Bool, true, false, _&&_}
 use mathlib.Core.Option.{none, some}
 use lib.ListN.{length, take, drop, length-append, length-drop}
 use lib.Seq.{sets, length-sets, drop-drop, drop-at, take-at}
 use Rattle.refusal.specs.Base.{good, refused, _>>=_, _>>_, ensure, maybe, if_then_else_}
 use Rattle.refusal.specs.Told.{refusal}
 use Rattle.refusal.specs.declared.Refusal.{Refusal}
+use Rattle.refusal.specs.declared.Refusal.the-variants.{KeyTwice, WorkTooShort}
 use Rattle.utf8.specs.White.{trimStart}
 use Rattle.item.specs.Tree.{Yaml, seq, dict, Items, end, _◂_, Entries, done, pair, add, hasKey}
 use Rattle.item.specs.Encode.{head, item, encode}
 use Rattle.item.proofs.Size.{head-length, item-length}
+use Rattle.item.proofs.Exact.{and-right}
 use Rattle.item.proofs.Runs.{sets-append}
+use Rattle.entries.specs.Entries.{Lies}
+use Rattle.entries.proofs.Walking.{lies-between}
 use Rattle.lines.specs.Lines.{Line}
+use Rattle.scalar.specs.Contract.{Refuses}
 use Rattle.flow.specs.Flow.{fresh}
 use Rattle.entries.proofs.Twice.{add-bytes}
-use Rattle.flow.proofs.Invariants.{headed, stored-front, snoc-bytes}
+use Rattle.flow.proofs.Invariants.{kept-before, kept-less, headed, stored-front, lies-kept, lies-stored, snoc-bytes}
 use Rattle.literal.specs.Literal.{Read}
+use Rattle.literal.specs.declared.BlockRead.the-variants.{Done, Refused}
 use Rattle.literal.specs.Contract.{WroteBlock}
 use Rattle.block.specs.Block.{Inside, keyAt, entryAt, mapTurn, mapLines, entriesOf, blockMap, inlineMap, itemBehind, seqTurn, seqLines, itemsOf, blockSeq, within}
-use Rattle.block.specs.Contract.{keyHere, dashHere, WroteEntry}
+use Rattle.block.specs.Contract.{keyHere, dashHere, WroteEntry, Judged, Ran}
 use Rattle.block.proofs.Cases.{charged, uncharged}
+use Rattle.block.proofs.Judging.{judged-none, judged-as, judged-add}
 
 -- ---- an entry behind others, as the search for its key finds them
 
@@ -52,12 +59,12 @@ module _ (old new front key tree : List ℕ) (from p e q : ℕ) (b : new ≡ set
 
 -- ---- the entries of a mapping
 
--- the entries so far, from whose end the definition goes on as from the start; `turns` are left
-pub record Mapped (ls : List Line) (first indent levels : ℕ) (old : List ℕ) (at : ℕ) (out : List ℕ) (i p : ℕ) : Type 0 where
+-- the entries so far, from whose end the definition goes on as from the start unless a key stands twice among them; `turns` are left
+pub record Mapped (ls : List Line) (first indent levels : ℕ) (exact : Bool) (old : List ℕ) (at : ℕ) (out : List ℕ) (i p : ℕ) : Type 0 where
   pub got : Entries
   pub turns : ℕ
   pub enough : length (drop i ls) ≤ turns
-  pub same : entriesOf (length old) (within (length old) levels) indent at (drop first ls) ≡ mapLines (length old) (within (length old) levels) indent turns got p (drop i ls)
+  pub judged : Judged (entriesOf (length old) (within (length old) levels) indent at (drop first ls)) (mapLines (length old) (within (length old) levels) indent turns got p (drop i ls)) exact got
   pub bytes : out ≡ sets old at (encode got)
   pub used : p ≡ at + length (encode got)
   pub kept : length out ≡ length old
@@ -65,12 +72,12 @@ pub record Mapped (ls : List Line) (first indent levels : ℕ) (old : List ℕ) 
   pub on : first ≤ i
   pub within′ : i ≤ length ls
 
-pub mapped-start : (ls : List Line) (first indent levels : ℕ) (old : List ℕ) (at : ℕ) → at ≤ length old → first ≤ length ls → Mapped ls first indent levels old at old first at
+pub mapped-start : (ls : List Line) (first indent levels : ℕ) (exact : Bool) (old : List ℕ) (at : ℕ) → at ≤ length old → first ≤ length ls → Mapped ls first indent levels exact old at old first at
 unfolding entriesOf encode
-mapped-start ls first indent levels old at r h =
-    record { got = done; turns = length (drop first ls); enough = omega arith; same = refl; bytes = refl; used = omega arith; kept = refl; room = r; on = omega arith; within′ = h }
+mapped-start ls first indent levels exact old at r h =
+    record { got = done; turns = length (drop first ls); enough = omega arith; judged = judged-none; bytes = refl; used = omega arith; kept = refl; room = r; on = omega arith; within′ = h }
 
-module _ (ls : List Line) (first indent levels : ℕ) (old : List ℕ) (at : ℕ) (out : List ℕ) (i p : ℕ) (v : Mapped ls first indent levels old at out i p) where
+module _ (ls : List Line) (first indent levels : ℕ) (exact : Bool) (old : List ℕ) (at : ℕ) (out : List ℕ) (i p : ℕ) (v : Mapped ls first indent levels exact old at out i p) where
   abbrev cap : ℕ
   cap = length old
 
@@ -86,9 +93,18 @@ module _ (ls : List Line) (first indent levels : ℕ) (old : List ℕ) (at : ℕ
   closes (suc t) [] k = refl
   closes (suc t) (l ∷ rest) k = rw k
 
-  pub mapped-end : keyHere indent (drop i ls) ≡ none → WroteBlock answer ls first old out at i p
+  got-lies : Lies out at p (v .got)
+  got-lies = rw (v .bytes) (lies-stored old at p (v .got) (v .used) (v .room))
+
+  pub mapped-end : keyHere indent (drop i ls) ≡ none → Ran answer ls first exact old out at (Done i p) p
   mapped-end k =
-      record { tree = v .got; is = v .same ∙ closes (v .turns) (drop i ls) k; bytes = v .bytes; grows = v .used; fits = v .room; on = v .on; within = v .within′ }
+      record {
+        got = v .got;
+        told = good (v .got, p, drop i ls);
+        judged = judged-as (v .judged) (closes (v .turns) (drop i ls) k);
+        agrees = record { tree = v .got; is = refl; bytes = v .bytes; grows = v .used; fits = v .room; on = v .on; within = v .within′ };
+        lies = got-lies;
+      }
 
   module _ (l : Line) (rest : List Line) (e : drop i ls ≡ l ∷ rest) (split : ℕ) (k : keyHere indent (drop i ls) ≡ some split) where
     abbrev entry : Read (List ℕ × Yaml)
@@ -103,12 +119,16 @@ module _ (ls : List Line) (first indent levels : ℕ) (old : List ℕ) (at : ℕ
         let m : keyAt indent l ≡ some split = ap (keyHere indent) (sym e) ∙ k in
         rw (e, m, n)
 
-    on-turn : answer ≡ (entry >>= λ x. fresh cap (l .number) (x .0 .0) (v .got) >> mapLines cap inside indent (v .turns - 1) (add (v .got) (x .0 .0) (x .0 .1)) (x .1) (x .2))
-    on-turn = v .same ∙ turn (v .turns) (v .enough)
-
-    pub map-stops : (z : Refusal) → entry ≡ refusal z → answer ≡ refusal z
+    pub map-stops : {new : List ℕ} (z : Refusal) → length new ≡ length out → Refuses entry out new p z → Ran answer ls first exact old new at (Refused z) p
     unfolding _>>=_
-    map-stops z r = on-turn ∙ rw r
+    map-stops {new} z n r =
+        record {
+          got = v .got;
+          told = refusal z;
+          judged = judged-as (v .judged) (turn (v .turns) (v .enough) ∙ rw (r .is));
+          agrees = record { is = refl; kept = kept-less at p out new (omega (arith, v .used)) (r .kept) ∙ ap (take at) (v .bytes) ∙ kept-before at old at (encode (v .got)) (omega arith) };
+          lies = lies-kept out new at p (v .got) (r .kept) (omega (arith, n, v .kept, v .room)) got-lies;
+        }
 
     module _ (new : List ℕ) (j c q : ℕ) (w : WroteEntry entry ls (i + 1) out new p j c q) where
       new-is : new ≡ sets old at (encode (v .got) ++ (item 3 (w .key) ++ encode (w .tree)))
@@ -117,31 +137,47 @@ module _ (ls : List Line) (first indent levels : ℕ) (old : List ℕ) (at : ℕ
           ∙ ap (λ (m : ℕ). sets (sets old at (encode (v .got))) m (item 3 (w .key) ++ encode (w .tree))) (v .used)
           ∙ sets-append (encode (v .got)) (item 3 (w .key) ++ encode (w .tree)) old at
 
-      -- what the search for the key among the entries before tells
-      module _ (found : Bool) (s : (es : Entries) → take (p - at) (drop at new) ≡ encode es → found ≡ hasKey (take (c - (p + 6)) (drop (p + 6) new)) es) where
-        fits : q ≤ length old
-        fits = omega (arith, w .fits, v .kept)
+      fits : q ≤ length old
+      fits = omega (arith, w .fits, v .kept)
 
-        found-is : found ≡ hasKey (w .key) (v .got)
+      new-long : length new ≡ length old
+      new-long = ap length new-is ∙ length-sets old at (encode (v .got) ++ (item 3 (w .key) ++ encode (w .tree)))
+
+      before : take (p - at) (drop at new) ≡ encode (v .got)
+      before = before-is old new (encode (v .got)) (w .key) (encode (w .tree)) at p c q new-is (v .used) (w .ends) (w .grows) fits
+
+      on-turn : Judged answer (fresh cap (l .number) (w .key) (v .got) >> mapLines cap inside indent (v .turns - 1) (add (v .got) (w .key) (w .tree)) q (drop j ls)) exact (v .got)
+      unfolding _>>=_
+      on-turn = judged-as (v .judged) (turn (v .turns) (v .enough) ∙ rw (w .is))
+
+      -- what the search for the key among the entries before tells, if there is one
+      module _ (found : Bool) (s : (es : Entries) → take (p - at) (drop at new) ≡ encode es → found ≡ exact && hasKey (take (c - (p + 6)) (drop (p + 6) new)) es) where
+        found-is : found ≡ exact && hasKey (w .key) (v .got)
         found-is =
-            s (v .got) (before-is old new (encode (v .got)) (w .key) (encode (w .tree)) at p c q new-is (v .used) (w .ends) (w .grows) fits)
-            ∙ ap (λ (b : List ℕ). hasKey b (v .got)) (key-is old new (encode (v .got)) (w .key) (encode (w .tree)) at p c q new-is (v .used) (w .ends) (w .grows) fits)
+            s (v .got) before
+            ∙ ap (λ (b : List ℕ). exact && hasKey b (v .got)) (key-is old new (encode (v .got)) (w .key) (encode (w .tree)) at p c q new-is (v .used) (w .ends) (w .grows) fits)
 
-        pub map-twice : found ≡ true → answer ≡ refused 18 (l .number) 0
+        pub map-twice : found ≡ true → (n : ℕ) → n ≡ l .number → Ran answer ls first exact old new at (Refused (KeyTwice n)) p
         unfolding _>>=_ _>>_ fresh ensure
-        map-twice t = on-turn ∙ rw (w .is, sym found-is ∙ t)
+        map-twice t n m =
+            record {
+              got = v .got;
+              told = refused 18 n 0;
+              judged = judged-as on-turn (rw (and-right exact (hasKey (w .key) (v .got)) (sym found-is ∙ t), m));
+              agrees = record { is = refl; kept = ap (take at) new-is ∙ kept-before at old at (encode (v .got) ++ (item 3 (w .key) ++ encode (w .tree))) (omega arith) };
+              lies = lies-between new at p (v .got) (omega (arith, v .used)) (omega (arith, v .room, new-long)) before;
+            }
 
-        pub map-on : found ≡ false → Mapped ls first indent levels old at new j q
-        unfolding _>>=_ _>>_ fresh ensure
+        pub map-on : found ≡ false → Mapped ls first indent levels exact old at new j q
         map-on t =
             record {
               got = add (v .got) (w .key) (w .tree);
               turns = v .turns - 1;
               enough = omega (arith, v .enough, length-drop i ls, length-drop j ls, w .on, ap length e);
-              same = on-turn ∙ rw (w .is, sym found-is ∙ t);
+              judged = judged-add cap (l .number) (w .key) (w .tree) _ on-turn λ x. ap (λ (b : Bool). b && hasKey (w .key) (v .got)) (sym x) ∙ sym found-is ∙ t;
               bytes = new-is ∙ ap (sets old at) (sym (add-bytes (v .got) (w .key) (w .tree)));
               used = rw (add-bytes (v .got) (w .key) (w .tree), length-append, length-append, item-length 3 (w .key)) (omega (arith, v .used, w .ends, w .grows));
-              kept = ap length new-is ∙ length-sets old at (encode (v .got) ++ (item 3 (w .key) ++ encode (w .tree)));
+              kept = new-long;
               room = fits;
               on = omega (arith, v .on, w .on);
               within′ = w .within;
@@ -166,9 +202,9 @@ unfolding itemsOf encode
 listed-start ls first indent levels old at r h =
     record { got = end; turns = length (drop first ls); enough = omega arith; same = refl; bytes = refl; used = omega arith; kept = refl; room = r; on = omega arith; within′ = h }
 
-pub list-full : (cap : ℕ) (inside : Inside) (indent at : ℕ) (rest : List Line) → cap < at + 6 → blockSeq cap inside indent at rest ≡ refused 50 0 0
+pub list-full : (old : List ℕ) (inside : Inside) (indent at : ℕ) (rest : List Line) → length old < at + 6 → Refuses (blockSeq (length old) inside indent at rest) old old at WorkTooShort
 unfolding blockSeq _>>=_
-list-full cap inside indent at rest h = rw (uncharged cap at h)
+list-full old inside indent at rest h = record { is = rw (uncharged (length old) at h); kept = refl }
 
 module _ (ls : List Line) (first indent levels : ℕ) (old : List ℕ) (at : ℕ) (out : List ℕ) (i p : ℕ) (v : Listed ls first indent levels old at out i p) (room : at + 6 ≤ length old) where
   abbrev scap : ℕ
@@ -216,9 +252,13 @@ module _ (ls : List Line) (first indent levels : ℕ) (old : List ℕ) (at : ℕ
         let m : dashHere indent (l ∷ rest) ≡ true = ap (dashHere indent) (sym e) ∙ k in
         rw (e, m, n)
 
-    pub list-stops : (z : Refusal) → one ≡ refusal z → listed ≡ refusal z
+    pub list-stops : {new : List ℕ} (z : Refusal) → Refuses one out new p z → Refuses listed old new at z
     unfolding _>>=_
-    list-stops z r = listed-is ∙ rw (sturn (v .turns) (v .enough), r)
+    list-stops {new} z r =
+        record {
+          is = listed-is ∙ rw (sturn (v .turns) (v .enough), r .is);
+          kept = kept-less at p out new (omega (arith, v .used)) (r .kept) ∙ ap (take at) (v .bytes) ∙ kept-before at old (at + 6) (encode (v .got)) (omega arith);
+        }
 
     pub list-on : (new : List ℕ) (j q : ℕ) → WroteBlock one ls (i + 1) out new p j q → Listed ls first indent levels old at new j q
     unfolding _>>=_
@@ -240,14 +280,14 @@ module _ (ls : List Line) (first indent levels : ℕ) (old : List ℕ) (at : ℕ
 
 -- ---- mappings
 
-pub map-full : (cap : ℕ) (inside : Inside) (indent at : ℕ) (rest : List Line) → cap < at + 6 → blockMap cap inside indent at rest ≡ refused 50 0 0
+pub map-full : (old : List ℕ) (inside : Inside) (indent at : ℕ) (rest : List Line) → length old < at + 6 → Refuses (blockMap (length old) inside indent at rest) old old at WorkTooShort
 unfolding blockMap _>>=_
-map-full cap inside indent at rest h = rw (uncharged cap at h)
+map-full old inside indent at rest h = record { is = rw (uncharged (length old) at h); kept = refl }
 
 module _ (cap : ℕ) (inside : Inside) (indent at : ℕ) (rest : List Line) (room : at + 6 ≤ cap) where
-  pub map-refused : (z : Refusal) → entriesOf cap inside indent (at + 6) rest ≡ refusal z → blockMap cap inside indent at rest ≡ refusal z
+  pub map-refused : {old new : List ℕ} (z : Refusal) → Refuses (entriesOf cap inside indent (at + 6) rest) old new (at + 6) z → Refuses (blockMap cap inside indent at rest) old new at z
   unfolding blockMap _>>=_
-  map-refused z e = rw (charged cap at room, e)
+  map-refused {old} {new} z r = record { is = rw (charged cap at room, r .is); kept = kept-less at (at + 6) old new (omega arith) (r .kept) }
 
   pub map-close : (ls : List Line) (i : ℕ) (old out new : List ℕ) (j q : ℕ) → WroteBlock (entriesOf cap inside indent (at + 6) rest) ls i old out (at + 6) j q
       → new ≡ sets out at (head 5 (q - at - 6)) → WroteBlock (blockMap cap inside indent at rest) ls i old new at j q
@@ -265,9 +305,10 @@ module _ (cap : ℕ) (inside : Inside) (indent at : ℕ) (rest : List Line) (roo
 
 -- ---- a mapping behind a dash
 
-pub inline-full : (cap : ℕ) (inside : Inside) (n indent : ℕ) (t : List ℕ) (split at : ℕ) (rest : List Line) → cap < at + 6 → inlineMap cap inside n indent t split at rest ≡ refused 50 0 0
+pub inline-full : (old : List ℕ) (inside : Inside) (n indent : ℕ) (t : List ℕ) (split at : ℕ) (rest : List Line) → length old < at + 6
+    → Refuses (inlineMap (length old) inside n indent t split at rest) old old at WorkTooShort
 unfolding inlineMap _>>=_
-inline-full cap inside n indent t split at rest h = rw (uncharged cap at h)
+inline-full old inside n indent t split at rest h = record { is = rw (uncharged (length old) at h); kept = refl }
 
 module _ (inside : Inside) (n indent : ℕ) (t : List ℕ) (split at : ℕ) (rest : List Line) (old : List ℕ) (room : at + 6 ≤ length old) where
   abbrev icap : ℕ
@@ -276,14 +317,18 @@ module _ (inside : Inside) (n indent : ℕ) (t : List ℕ) (split at : ℕ) (res
   abbrev inlined : Read Yaml
   inlined = inlineMap icap inside n indent t split at rest
 
-  pub inline-stops : (z : Refusal) → entryAt icap inside n indent t split (at + 6) rest ≡ refusal z → inlined ≡ refusal z
+  pub inline-stops : {new : List ℕ} (z : Refusal) → Refuses (entryAt icap inside n indent t split (at + 6) rest) old new (at + 6) z → Refuses inlined old new at z
   unfolding inlineMap _>>=_
-  inline-stops z e = rw (charged icap at room, e)
+  inline-stops {new} z r = record { is = rw (charged icap at room, r .is); kept = kept-less at (at + 6) old new (omega arith) (r .kept) }
 
   module _ (ls : List Line) (i : ℕ) (mid : List ℕ) (j c q : ℕ) (w : WroteEntry (entryAt icap inside n indent t split (at + 6) rest) ls i old mid (at + 6) j c q) where
-    pub inline-later : (z : Refusal) → entriesOf icap inside indent q (drop j ls) ≡ refusal z → inlined ≡ refusal z
+    pub inline-later : {new : List ℕ} (z : Refusal) → Refuses (entriesOf icap inside indent q (drop j ls)) mid new q z → Refuses inlined old new at z
     unfolding inlineMap _>>=_
-    inline-later z e = rw (charged icap at room, w .is, e)
+    inline-later {new} z r =
+        record {
+          is = rw (charged icap at room, w .is, r .is);
+          kept = kept-less at q mid new (omega (arith, w .ends, w .grows)) (r .kept) ∙ ap (take at) (w .bytes′) ∙ kept-before at old (at + 6) (item 3 (w .key) ++ encode (w .tree)) (omega arith);
+        }
 
     module _ (out : List ℕ) (m u : ℕ) (d : WroteBlock (entriesOf icap inside indent q (drop j ls)) ls j mid out q m u) where
       behind-is : out ≡ sets old (at + 6) (item 3 (w .key) ++ (encode (w .tree) ++ encode (d .tree)))
@@ -321,9 +366,13 @@ module _ (inside : Inside) (n indent : ℕ) (t : List ℕ) (split at : ℕ) (res
         found-first : found ≡ hasKey (w .key) (d .tree)
         found-first = s (d .tree) later-is ∙ ap (λ (b : List ℕ). hasKey b (d .tree)) first-is
 
-        pub inline-twice : found ≡ true → inlined ≡ refused 18 n 0
+        pub inline-twice : found ≡ true → (m : ℕ) → m ≡ n → Refuses inlined old out at (KeyTwice m)
         unfolding inlineMap _>>=_ _>>_ fresh ensure
-        inline-twice f = rw (charged icap at room, w .is, d .is, sym found-first ∙ f)
+        inline-twice f m e =
+            record {
+              is = rw (charged icap at room, w .is, d .is, sym found-first ∙ f, e);
+              kept = ap (take at) behind-is ∙ kept-before at old (at + 6) (item 3 (w .key) ++ (encode (w .tree) ++ encode (d .tree))) (omega arith);
+            }
 
         pub inline-close : found ≡ false → i ≤ j → (new : List ℕ) → new ≡ sets out at (head 5 (u - at - 6)) → WroteBlock inlined ls i old new at m u
         unfolding inlineMap _>>=_ _>>_ fresh ensure encode

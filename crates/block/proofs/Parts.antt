@@ -5,13 +5,13 @@ use native.Mathlib.Omega.{arith}
 use mathlib.Core.List.{List, [], _∷_}
 use mathlib.Core.Bool.{Bool, true, false}
 use mathlib.Core.Option.{Option, none, some}
-use lib.ListN.{length, drop, getD}
+use lib.ListN.{length, take, drop, getD}
 use lib.Seq.{sets}
 use borrow.Author.Tests.{eq-eqb, ne-eqb, le-leb, lt-leb}
-use Rattle.refusal.specs.Base.{Answer, refused, _>>=_, _>>_, ensure, given, maybe, if_then_else_, ch, bytes, same, empty}
-use Rattle.refusal.specs.Told.{refusal}
+use Rattle.refusal.specs.Base.{Answer, _>>=_, _>>_, ensure, given, maybe, if_then_else_, ch, bytes, same, empty}
 use Rattle.refusal.proofs.Tools.{chosen, present}
 use Rattle.refusal.specs.declared.Refusal.{Refusal}
+use Rattle.refusal.specs.declared.Refusal.the-variants.{EmptyKey, ComplexKey, KeyNotScalar, WorkTooShort}
 use Rattle.utf8.specs.Part.{part}
 use Rattle.utf8.specs.White.{leading, trimStart}
 use Rattle.utf8.proofs.Laws.{part-drop, part-length, start-part, start-le}
@@ -27,12 +27,13 @@ use Rattle.scalar.specs.declared.Role.the-variants.{AsValue, AsKey}
 use Rattle.item.specs.declared.Found.the-variants.{At, Nothing as NotFound}
 use Rattle.scalar.specs.Key.{quoteAfter, depthAfter, qualifies, keyEndFrom, keyEnd}
 use Rattle.scalar.specs.Read.{cost, charge}
-use Rattle.scalar.specs.Contract.{written}
+use Rattle.scalar.specs.Contract.{written, Refuses}
 use Rattle.scalar.specs.Code.{foundOf}
 use Rattle.flow.specs.declared.Whole.{Whole}
 use Rattle.flow.specs.declared.Whole.the-variants.{Read, Refused}
 use Rattle.flow.specs.Flow.{flow}
 use Rattle.flow.specs.Contract.{WroteWhole, AgreesWhole}
+use Rattle.flow.proofs.Invariants.{kept-before}
 use Rattle.flow.proofs.Values.{Named, named, unnamed}
 use Rattle.literal.specs.Literal.{leaf}
 use Rattle.literal.specs.Contract.{WroteBlock}
@@ -162,9 +163,9 @@ module _ (t : List ℕ) where
 
 -- ---- null
 
-pub null-full : (cap at : ℕ) (ls : List Line) → cap < at + 6 → leaf cap at null ls ≡ refused 50 0 0
+pub null-full : (old : List ℕ) (at : ℕ) (ls : List Line) → length old < at + 6 → Refuses (leaf (length old) at null ls) old old at WorkTooShort
 unfolding leaf cost charge _>>=_ if_then_else_
-null-full cap at ls h = rw (lt-leb (at + 6) cap h)
+null-full old at ls h = record { is = rw (lt-leb (at + 6) (length old) h); kept = refl }
 
 pub null-done : (old new : List ℕ) (at i : ℕ) (ls : List Line) → i ≤ length ls → at + 6 ≤ length old → new ≡ sets old at (encode null)
     → WroteBlock (leaf (length old) at null (drop i ls)) ls i old new at i (at + 6)
@@ -185,13 +186,13 @@ module _ (role : Role) (x : Answer (Yaml × ℕ)) (old new : List ℕ) (at : ℕ
   pub whole-is : (u : ℕ) (key : Bool) → r ≡ Read u key → WroteWhole role x old new at u key
   whole-is u key e = subst (AgreesWhole role x old new at) e w
 
-  pub stopped-is : (z : Refusal) → r ≡ Refused z → x ≡ refusal z
+  pub stopped-is : (z : Refusal) → r ≡ Refused z → Refuses x old new at z
   stopped-is z e = subst (AgreesWhole role x old new at) e w
 
-module _ (t : List ℕ) (n levels cap at : ℕ) (ls : List Line) where
-  pub line-refused : (k l s : ℕ) → flow cap n levels AsValue at t ≡ refused k l s → lineValue cap levels n at t ls ≡ refused k l s
-  unfolding lineValue _>>=_
-  line-refused k l s e = rw e
+pub line-refused : (t : List ℕ) (n levels : ℕ) (old new : List ℕ) (at : ℕ) (z : Refusal) → Refuses (flow (length old) n levels AsValue at t) old new at z
+    → (ls : List Line) → Refuses (lineValue (length old) levels n at t ls) old new at z
+unfolding lineValue _>>=_
+line-refused t n levels old new at z r ls = record { is = rw (r .is); kept = r .kept }
 
 pub line-done : (t : List ℕ) (n levels : ℕ) (old new : List ℕ) (at u : ℕ) (key : Bool) → WroteWhole AsValue (flow (length old) n levels AsValue at t) old new at u key
     → (i : ℕ) (ls : List Line) → i ≤ length ls → WroteBlock (lineValue (length old) levels n at t (drop i ls)) ls i old new at i u
@@ -215,24 +216,28 @@ module _ (t : List ℕ) (n levels : ℕ) (old : List ℕ) (at : ℕ) where
   abbrev whole : Answer (Yaml × ℕ)
   whole = flow (length old) n levels AsKey at t
 
-  pub key-empty : length t ≡ 0 → read ≡ refused 14 n 0
+  pub key-empty : length t ≡ 0 → Refuses read old old at (EmptyKey n)
   unfolding blockKey ensure _>>_ _>>=_
-  key-empty e = rw (is-empty t e)
+  key-empty e = record { is = rw (is-empty t e); kept = refl }
 
   module _ (h : 0 < length t) where
-    pub key-complex : startsComplex t ≡ true → read ≡ refused 15 n 0
+    pub key-complex : startsComplex t ≡ true → Refuses read old old at (ComplexKey n)
     unfolding blockKey ensure _>>_ _>>=_
-    key-complex e = rw (not-empty t h, e)
+    key-complex e = record { is = rw (not-empty t h, e); kept = refl }
 
     module _ (simple : startsComplex t ≡ false) where
-      pub key-refused : (k l s : ℕ) → whole ≡ refused k l s → read ≡ refused k l s
+      pub key-refused : (new : List ℕ) (z : Refusal) → Refuses whole old new at z → Refuses read old new at z
       unfolding blockKey ensure _>>_ _>>=_
-      key-refused k l s e = rw (not-empty t h, simple, e)
+      key-refused new z r = record { is = rw (not-empty t h, simple, r .is); kept = r .kept }
 
       module _ (new : List ℕ) (u : ℕ) (key : Bool) (w : WroteWhole AsKey whole old new at u key) where
-        pub key-unnamed : key ≡ false → read ≡ refused 16 n 0
+        pub key-unnamed : key ≡ false → Refuses read old new at (KeyNotScalar n)
         unfolding blockKey ensure given _>>_ _>>=_
-        key-unnamed k = rw (not-empty t h, simple, w .is, unnamed (w .tree) (sym (w .keyed) ∙ k))
+        key-unnamed k =
+            record {
+              is = rw (not-empty t h, simple, w .is, unnamed (w .tree) (sym (w .keyed) ∙ k));
+              kept = ap (take at) (w .bytes) ∙ kept-before at old at (written AsKey (w .tree)) (omega arith);
+            }
 
         pub key-done : key ≡ true → WroteKey read old new at u
         unfolding blockKey ensure given _>>_ _>>=_

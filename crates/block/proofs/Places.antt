@@ -11,9 +11,10 @@ use lib.ListN.{length, take, drop, length-drop}
 use lib.Seq.{sets, length-sets}
 use borrow.Author.Tests.{eqb-true}
 use Rattle.refusal.specs.Base.{Answer, refused, bytes}
-use Rattle.refusal.specs.Told.{toldOf, refusal}
+use Rattle.refusal.specs.Told.{toldOf}
 use Rattle.refusal.proofs.Tools.{chosen}
 use Rattle.refusal.specs.declared.Refusal.{Refusal}
+use Rattle.refusal.specs.declared.Refusal.the-variants.{TooDeep}
 use Rattle.utf8.proofs.Ranges.{if-both}
 use Rattle.utf8.specs.Part.{part}
 use Rattle.utf8.proofs.Laws.{part-all, part-length, part-take}
@@ -30,6 +31,8 @@ use Rattle.lines.specs.Ready.{Ready}
 use Rattle.lines.proofs.Laws.{dashed-filled}
 use Rattle.lines.proofs.Rows.{rows-end, in-table, rows-next, entry-inside, entry-text}
 use Rattle.scalar.specs.Key.{keyEnd}
+use Rattle.scalar.specs.Contract.{Refuses}
+use Rattle.flow.proofs.Invariants.{kept-before, kept-less}
 use Rattle.literal.specs.Literal.{Read, leaf, literal}
 use Rattle.literal.specs.Contract.{WroteBlock}
 use Rattle.block.specs.declared.Opening.the-variants.{Dash, Key, Flow}
@@ -125,9 +128,9 @@ module _ (text table : List ℕ) (count : ℕ) where
       valued : (t : List ℕ) → lineValue cap levels (numberAt table i) sum t rest ≡ lineValue cap levels (x .number) sum t rest
       valued t = ap (λ (n : ℕ). lineValue cap levels n sum t rest) (sym (is .number′))
 
-      -- and 20
-      refuse : _≡_ {A = Read Yaml} (refused 20 (numberAt table i) 0) (refused 20 (x .number) 0)
-      refuse = ap (λ (n : ℕ). refused 20 n 0) (sym (is .number′))
+      -- and 20, before anything is written
+      refuse : {answer : Read Yaml} {b : List ℕ} → answer ≡ refused 20 (numberAt table i) 0 → Refuses answer b b sum (TooDeep (x .number))
+      refuse e = record { is = e ∙ ap (λ (n : ℕ). refused 20 n 0) (sym (is .number′)); kept = refl }
 
       -- by what the line begins with
       module _ (t : List ℕ) (e : t ≡ l .text) where
@@ -136,8 +139,8 @@ module _ (text table : List ℕ) (count : ℕ) where
             block-line cap levels sum (drop i lines) l rest (rows-next text table count i h) (ap openingOf (sym e) ∙ sym o) ∙ valued (l .text) ∙ ap (λ (b : List ℕ). lineValue cap levels (x .number) sum b rest) (sym e)
 
         module _ (o : Dash ≡ openingOf t) where
-          pub sequence-deep-at : levels ≡ 0 → blocked ≡ refused 20 (x .number) 0
-          sequence-deep-at z = sequence-deep cap levels sum (drop i lines) l rest (rows-next text table count i h) (ap openingOf (sym e) ∙ sym o) z ∙ refuse
+          pub sequence-deep-at : {b : List ℕ} → levels ≡ 0 → Refuses blocked b b sum (TooDeep (x .number))
+          sequence-deep-at z = refuse (sequence-deep cap levels sum (drop i lines) l rest (rows-next text table count i h) (ap openingOf (sym e) ∙ sym o) z)
 
           pub block-sequence-at : (levels ≡ 0 → ⊥) → blocked ≡ blockSeq cap (within cap (levels - 1)) (x .indent) sum (drop i lines)
           block-sequence-at z =
@@ -145,8 +148,8 @@ module _ (text table : List ℕ) (count : ℕ) where
               ∙ ap (λ (k : ℕ). blockSeq cap (within cap (levels - 1)) k sum (drop i lines)) (sym (is .indent′))
 
         module _ (split : ℕ) (o : Key split ≡ openingOf t) where
-          pub mapping-deep-at : levels ≡ 0 → blocked ≡ refused 20 (x .number) 0
-          mapping-deep-at z = mapping-deep cap levels sum (drop i lines) l rest (rows-next text table count i h) split (ap openingOf (sym e) ∙ sym o) z ∙ refuse
+          pub mapping-deep-at : {b : List ℕ} → levels ≡ 0 → Refuses blocked b b sum (TooDeep (x .number))
+          mapping-deep-at z = refuse (mapping-deep cap levels sum (drop i lines) l rest (rows-next text table count i h) split (ap openingOf (sym e) ∙ sym o) z)
 
           pub block-mapping-at : (levels ≡ 0 → ⊥) → blocked ≡ blockMap cap (within cap (levels - 1)) (x .indent) sum (drop i lines)
           block-mapping-at z =
@@ -207,18 +210,24 @@ module _ (text table : List ℕ) (count : ℕ) where
             ap (λ (n : ℕ). blockKey cap levels n sum (trim (take split (textAt text table i from)))) (sym (is .number′))
             ∙ ap (λ (b : List ℕ). blockKey cap levels (x .number) sum (trim b)) (part-take text from (endAt table i) split (omega (arith, sp .high)))
 
-        pub entry-unkeyed-at : (z : Refusal) → keyed ≡ refusal z → entered ≡ refusal z
-        entry-unkeyed-at z e =
-            entry-unkeyed cap levels (numberAt table i) (columnAt table i from) (textAt text table i from) split sum rest (toldOf z .number) (toldOf z .line) (toldOf z .step) (keyed-is ∙ e)
+        pub entry-unkeyed-at : {old new : List ℕ} (z : Refusal) → Refuses keyed old new sum z → Refuses entered old new sum z
+        entry-unkeyed-at z r =
+            record {
+              is = entry-unkeyed cap levels (numberAt table i) (columnAt table i from) (textAt text table i from) split sum rest (toldOf z .number) (toldOf z .line) (toldOf z .step) (keyed-is ∙ r .is);
+              kept = r .kept;
+            }
 
         module _ (old mid : List ℕ) (u : ℕ) (w : WroteKey keyed old mid sum u) where
           abbrev behind-key : Read Yaml
           behind-key = valueBehind cap (within cap levels) (numberAt table i) (columnAt table i from) u (trim (drop (suc split) (textAt text table i from))) rest
 
-          pub entry-unvalued-at : (z : Refusal) → behind-key ≡ refusal z → entered ≡ refusal z
-          entry-unvalued-at z e =
-              entry-unvalued cap levels (numberAt table i) (columnAt table i from) (textAt text table i from) split sum rest (w .key) u
-              (toldOf z .number) (toldOf z .line) (toldOf z .step) (keyed-is ∙ w .is) e
+          pub entry-unvalued-at : {new : List ℕ} (z : Refusal) → Refuses behind-key mid new u z → Refuses entered old new sum z
+          entry-unvalued-at {new} z r =
+              record {
+                is = entry-unvalued cap levels (numberAt table i) (columnAt table i from) (textAt text table i from) split sum rest (w .key) u
+                    (toldOf z .number) (toldOf z .line) (toldOf z .step) (keyed-is ∙ w .is) (r .is);
+                kept = kept-less sum u mid new (omega (arith, w .grows)) (r .kept) ∙ ap (take sum) (w .bytes′) ∙ kept-before sum old sum (itemOf 3 (w .key)) (omega arith);
+              }
 
           pub entry-done-at : (new : List ℕ) (j q : ℕ) → WroteBlock behind-key lines (i + 1) mid new u j q → WroteEntry entered lines (i + 1) old new sum j u q
           entry-done-at new j q v =
@@ -281,9 +290,8 @@ module _ (text table : List ℕ) (count : ℕ) where
             pub item-splits : Splits table i from split
             item-splits = record { low = omega (arith, item-low, is .start′); high = omega (arith, key-end-within (part text from (x .end)) split k, long, is .end′) }
 
-            pub item-deep-at : levels ≡ 0 → item ≡ refused 20 (x .number) 0
-            item-deep-at z =
-                it-is ∙ item-deep cap levels l sum (part text from (x .end)) rest more split k z ∙ refuse
+            pub item-deep-at : {b : List ℕ} → levels ≡ 0 → Refuses item b b sum (TooDeep (x .number))
+            item-deep-at z = refuse (it-is ∙ item-deep cap levels l sum (part text from (x .end)) rest more split k z)
 
             pub item-inline-at : (levels ≡ 0 → ⊥)
                 → item ≡ inlineMap cap (within cap (levels - 1)) (numberAt table i) (columnAt table i from) (textAt text table i from) split sum rest

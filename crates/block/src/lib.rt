@@ -1,10 +1,13 @@
 // Blocks (document 01, section 3): the value that lines are, written into the work bytes as it is read. Lines are read from a table
 // of entries, of which the first `count` count; `levels` more collections may be opened; of `out` the first `at` bytes are used.
 ghost use mathlib.Core.Path.{_≡_};
+ghost use mathlib.Core.Bool.{_&&_};
 ghost use mathlib.Core.Option.{some};
-ghost use Prim.Native.Nat.{_+_, _≤_, _<_, suc, _^_};
-ghost use lib.ListN.{length, drop};
+ghost use Prim.Native.Nat.{_+_, _-_, _≤_, _<_, suc, _^_};
+ghost use lib.ListN.{length, take, drop};
 ghost use Rattle.item.specs.Tree as items;
+ghost use Rattle.item.specs.Tree.{Entries, hasKey};
+ghost use Rattle.item.specs.Encode.{encode};
 ghost use Rattle.utf8.specs.White.{trim, trimStart};
 ghost use Rattle.lines.specs.Table.{tableLines, lineAt, startAt, endAt, numberAt};
 ghost use Rattle.lines.specs.Ready.{Ready};
@@ -15,7 +18,9 @@ ghost use Rattle.block.specs.Block as definition;
 ghost use Rattle.block.specs.Block.{startsComplex, lineValue, blockKey, valueBehind, entryAt, entriesOf, blockMap, inlineMap};
 ghost use Rattle.block.specs.Block.{itemBehind, blockSeq, within};
 ghost use Rattle.block.specs.Contract.{openingOf, behindOf, keyHere, dashHere, columnAt, textAt, Splits, AgreesKey, ReadsEntry};
+ghost use Rattle.block.specs.Contract.{ReadsEntries};
 use entries::has_key;
+use entries::repeats;
 use flow::Whole;
 use item::Found;
 use item::put_header;
@@ -47,6 +52,12 @@ pub enum EntryRead {
         used: usize,
     },
     Refused(Refusal),
+}
+
+// What a run over the entries of a mapping answers, and where the last entry that was read ends.
+pub struct EntriesRead {
+    pub answer: BlockRead,
+    pub used: usize,
 }
 
 // What a line begins with: a dash, a key that ends at a place, or neither, so that it is one flow value.
@@ -271,8 +282,78 @@ fn key_at(text: &[u8], table: &[u16], count: usize, i: usize, indent: usize) -> 
     key_end(line_text(text, table, count, i))
 }
 
-// The entries of a mapping from line `first` on: the lines at this indentation that have a key end. `found` is
-// where the first one's key ends.
+// Whether keys are compared, and the one from `key` to `key_end` is a key of the entries that stand from `from` to `to`.
+fn repeated(exact: bool, s: &[u8], from: usize, to: usize, key: usize, key_end: usize) -> bool
+    requires { ⌜ (from ≤ to) × (to ≤ length (now s)) × (key ≤ «key_end») × («key_end» ≤ length (now s)) × (length (now s) ≤ 2 ^ 20) ⌝ }
+    ensures { λ r. ⌜ ((es : Entries) → take (to - from) (drop from (now (s .entry))) ≡ encode es → r
+        ≡ exact && hasKey (take («key_end» - key) (drop key (now (s .entry)))) es) ⌝ }
+{
+    if exact {
+        return has_key(s, from, to, key, key_end);
+    }
+    false
+}
+
+// One run over the entries of a mapping from line `first` on: the lines at this indentation that have a key end. `found` is where
+// the first one's key ends. Each key is compared with those before it only if `exact`.
+fn entries_by(
+    text: &[u8],
+    table: &[u16],
+    count: usize,
+    first: usize,
+    found: Found,
+    indent: usize,
+    levels: usize,
+    exact: bool,
+    out: &mut [u8],
+    at: usize,
+) -> EntriesRead
+    requires { ⌜ Ready (now text) (now table) count × (first ≤ count)
+        × (found ≡ foundOf (keyHere indent (drop first (tableLines (now text) (now table) count)))) × (at ≤ length (now out))
+        × (length (now out) ≤ 2 ^ 20) ⌝ }
+    ensures { λ r. ⌜ ReadsEntries (λ work ls. entriesOf work (within work levels) indent at ls) (now (text .entry)) (now (table .entry))
+        count first exact (now (out .entry)) (now (out .exit)) at r ⌝ }
+{
+    let mut i = first;
+    let mut key = found;
+    let mut p = at;
+    loop {
+        let Found::At(split) = key else {
+            break;
+        };
+        let line = entry_at(table, i);
+        match entry(text, table, count, i, line.start, split, levels, out, p) {
+            EntryRead::Refused(e) => {
+                return EntriesRead {
+                    answer: BlockRead::Refused(e),
+                    used: p,
+                };
+            }
+            EntryRead::Done {
+                next,
+                key_end,
+                used,
+            } => {
+                if repeated(exact, out, at, p, p + 6, key_end) {
+                    return EntriesRead {
+                        answer: BlockRead::Refused(Refusal::KeyTwice { line: line.number }),
+                        used: p,
+                    };
+                }
+                i = next;
+                key = key_at(text, table, count, next, indent);
+                p = used;
+            }
+        }
+    }
+    EntriesRead {
+        answer: BlockRead::Done { next: i, used: p },
+        used: p,
+    }
+}
+
+// Those entries. Their keys are judged at once, behind the last entry that was read. Only where one stands twice is there a second run,
+// which compares each key to name the first such line; at most 2,048 lines have a key, so that square is bounded.
 fn entries(
     text: &[u8],
     table: &[u16],
@@ -290,31 +371,35 @@ fn entries(
     ensures { λ r. ⌜ ReadsLines (λ work ls. entriesOf work (within work levels) indent at ls) (now (text .entry)) (now (table .entry))
         count first (now (out .entry)) (now (out .exit)) at r ⌝ }
 {
-    let mut i = first;
-    let mut key = found;
-    let mut p = at;
-    loop {
-        let Found::At(split) = key else {
-            break;
-        };
-        let line = entry_at(table, i);
-        match entry(text, table, count, i, line.start, split, levels, out, p) {
-            EntryRead::Refused(e) => return BlockRead::Refused(e),
-            EntryRead::Done {
-                next,
-                key_end,
-                used,
-            } => {
-                if has_key(out, at, p, p + 6, key_end) {
-                    return BlockRead::Refused(Refusal::KeyTwice { line: line.number });
-                }
-                i = next;
-                key = key_at(text, table, count, next, indent);
-                p = used;
-            }
-        }
+    let run = entries_by(
+        text,
+        table,
+        count,
+        first,
+        found,
+        indent,
+        levels,
+        false,
+        out,
+        at,
+    );
+    let used = run.used;
+    if repeats(out, at, used) {
+        let again = entries_by(
+            text,
+            table,
+            count,
+            first,
+            found,
+            indent,
+            levels,
+            true,
+            out,
+            at,
+        );
+        return again.answer;
     }
-    BlockRead::Done { next: i, used: p }
+    run.answer
 }
 
 // A mapping that begins with line `i`, whose key ends at `split`.

@@ -4,35 +4,33 @@ use mathlib.Core.Logic.{_⊎_, ⊎-elim}
 use Prim.Native.Nat.{ℕ, zero, suc, _+_, _-_, _≤_, _<_}
 use native.Mathlib.Omega.{arith}
 use mathlib.Core.List.{List, _∷_}
-use mathlib.Core.Bool.{Bool, true, false, _||_, false≢true}
+use mathlib.Core.Bool.{Bool, true, false, false≢true}
 use mathlib.Core.Option.{none, some}
-use lib.Dec.{eqb}
-use lib.ListN.{length, drop, getD, length-drop, drop-of-length-le}
+use lib.ListN.{length, take, drop, getD, length-append, length-drop, drop-of-length-le}
 use lib.Seq.{sets, length-sets}
 use borrow.Author.Tests.{eq-eqb, ne-eqb, le-leb, lt-leb}
 use Rattle.refusal.specs.Base.{Answer, good, refused, _>>=_, given, if_then_else_, ch}
-use Rattle.refusal.specs.Told.{toldOf, refusal}
 use Rattle.refusal.specs.declared.Refusal.{Refusal}
+use Rattle.refusal.specs.declared.Refusal.the-variants.{KeyNotScalar, KeyWithoutColon}
 use Rattle.item.specs.Tree.{Yaml, null, bool, int, str, seq, dict}
 use Rattle.item.specs.Encode.{item, encode}
-use Rattle.item.proofs.Size.{item-length}
 use Rattle.item.proofs.Runs.{sets-append}
 use Rattle.scalar.specs.declared.Role.{Role}
 use Rattle.scalar.specs.declared.Role.the-variants.{AsValue, AsKey}
 use Rattle.scalar.specs.declared.Parsed.{Parsed}
 use Rattle.scalar.specs.declared.Parsed.the-variants.{Done, Refused}
 use Rattle.scalar.specs.Scalars.{keyText, boolText, intText}
-use Rattle.scalar.specs.Read.{Got, charge, stop, scalar, skipSpaces, endsItem, endsColon, string, doubleQuoted, singleQuoted, plain}
-use Rattle.scalar.specs.Contract.{written, isKey, WroteValue, AgreesParsed}
+use Rattle.scalar.specs.Read.{Got, charge, stop, scalar, skipSpaces, string, doubleQuoted, singleQuoted, plain}
+use Rattle.scalar.specs.Contract.{written, isKey, Refuses, WroteValue, AgreesParsed}
 use Rattle.flow.specs.Flow.{behindColon, entryValue, flowSeq, flowMap, node, value}
-use Rattle.flow.specs.Contract.{separates, skipSeparators, levelsInside, sequenceOf, mappingOf, entryOf, WrotePair}
+use Rattle.flow.specs.Contract.{separates, skipSeparators, levelsInside, sequenceOf, entriesOf, mappingOf, entryOf, WrotePair}
 use Rattle.flow.proofs.Progress.{Takes, value-takes, entryValue-le}
-use Rattle.flow.proofs.Invariants.{next, wrote-is, refused-is}
+use Rattle.flow.proofs.Invariants.{kept-before, kept-less, next, wrote-is, refused-is}
 
 pub agrees-of : (role : Role) (x y : Answer (Got Yaml)) (s old new : List ℕ) (at : ℕ) (r : Parsed) → x ≡ y → AgreesParsed role y s old new at r → AgreesParsed role x s old new at r
 agrees-of role x y s old new at (Done n u k) e w =
     record { tree = w .tree; is = e ∙ w .is; bytes = w .bytes; grows = w .grows; fits = w .fits; forward = w .forward; keyed = w .keyed }
-agrees-of role x y s old new at (Refused z) e w = e ∙ w
+agrees-of role x y s old new at (Refused z) e w = record { is = e ∙ w .is; kept = w .kept }
 
 value-node : (cap n levels : ℕ) (inFlow : Bool) (role : Role) (sum : ℕ) (bs : List ℕ) → value cap n levels inFlow role sum bs ≡ node cap n (levelsInside cap n levels) inFlow role sum bs
 unfolding value levelsInside
@@ -107,7 +105,7 @@ module _ (cap n sum : ℕ) (bs : List ℕ) where
 
   opens : (levels : ℕ) → (levels ≡ 0 → ⊥) → sum + 6 ≤ cap
       → (flowSeq cap n (levelsInside cap n levels) sum bs ≡ sequenceOf cap n (levels - 1) sum bs) × (flowMap cap n (levelsInside cap n levels) sum bs ≡ mappingOf cap n (levels - 1) sum bs)
-  unfolding flowSeq flowMap levelsInside charge if_then_else_ _>>=_ sequenceOf mappingOf
+  unfolding flowSeq flowMap levelsInside charge if_then_else_ _>>=_ sequenceOf entriesOf mappingOf
   opens zero z h = absurd (z refl)
   opens (suc levels) z h = let e : suc levels - 1 ≡ levels = omega arith in (rw (le-leb (sum + 6) cap h, e), rw (le-leb (sum + 6) cap h, e))
 
@@ -190,45 +188,47 @@ module _ (s : List ℕ) (i n levels : ℕ) (old : List ℕ) (at : ℕ) where
   abbrev whole : Answer (Got (List ℕ × Yaml))
   whole = entryOf ecap n (value ecap n levels true) at (drop i s)
 
-  pub entry-refused : (k l q : ℕ) → value ecap n levels true AsKey at (drop i s) ≡ refused k l q → whole ≡ refused k l q
+  pub entry-refused : (new : List ℕ) (z : Refusal) → Refuses (value ecap n levels true AsKey at (drop i s)) old new at z → Refuses whole old new at z
   unfolding entryOf _>>=_
-  entry-refused k l q e = rw e
+  entry-refused new z e = record { is = rw (e .is); kept = e .kept }
 
   module _ (mid : List ℕ) (j u : ℕ) (key : Bool) (w : WroteValue AsKey (value ecap n levels true AsKey at (drop i s)) s old mid at j u key) where
-    pub entry-unnamed : key ≡ false → whole ≡ refused 16 n 0
+    mid-keeps : take at mid ≡ take at old
+    mid-keeps = ap (take at) (w .bytes) ∙ kept-before at old at (written AsKey (w .tree)) (omega arith)
+
+    pub entry-unnamed : key ≡ false → Refuses whole old mid at (KeyNotScalar n)
     unfolding entryOf _>>=_ given
-    entry-unnamed e = rw (w .is, unnamed (w .tree) (sym (w .keyed) ∙ e))
+    entry-unnamed e = record { is = rw (w .is, unnamed (w .tree) (sym (w .keyed) ∙ e)); kept = mid-keeps }
 
     module _ (k : key ≡ true) (c : ℕ) (sk : drop c s ≡ skipSpaces (drop j s)) where
       nm : Named (w .tree)
       nm = named (w .tree) (sym (w .keyed) ∙ k)
 
-      pub entry-ends : length s ≤ c → whole ≡ refused 17 n 0
+      pub entry-ends : length s ≤ c → Refuses whole old mid at (KeyWithoutColon n)
       unfolding entryOf _>>=_ given behindColon stop
-      entry-ends h = rw (w .is, nm .says, ← sk, drop-of-length-le s {i = c} h)
+      entry-ends h = record { is = rw (w .is, nm .says, ← sk, drop-of-length-le s {i = c} h); kept = mid-keeps }
 
       module _ (h : c < length s) where
-        pub entry-colonless : (getD s c 0 ≡ ch ":" → ⊥) → whole ≡ refused 17 n 0
+        pub entry-colonless : (getD s c 0 ≡ ch ":" → ⊥) → Refuses whole old mid at (KeyWithoutColon n)
         unfolding entryOf _>>=_ given behindColon stop if_then_else_
-        entry-colonless e = rw (w .is, nm .says, ← sk, next s c h, ne-eqb (getD s c 0) (ch ":") e)
+        entry-colonless e = record { is = rw (w .is, nm .says, ← sk, next s c h, ne-eqb (getD s c 0) (ch ":") e); kept = mid-keeps }
 
         module _ (e : getD s c 0 ≡ ch ":") (d : ℕ) (sd : drop d s ≡ skipSpaces (drop (c + 1) s)) where
           to-value : whole ≡ (entryValue ecap n (value ecap n levels true) u (drop d s) >>= λ v. good ((nm .name, v .0), v .1, v .2))
           unfolding entryOf _>>=_ given behindColon if_then_else_
           to-value = rw (w .is, nm .says, ← sk, next s c h, e, sd)
 
-          entry-stops : (x l q : ℕ) → entryValue ecap n (value ecap n levels true) u (drop d s) ≡ refused x l q → whole ≡ refused x l q
+          entry-stops : (new : List ℕ) (z : Refusal) → Refuses (entryValue ecap n (value ecap n levels true) u (drop d s)) mid new u z → Refuses whole old new at z
           unfolding _>>=_
-          entry-stops x l q r = to-value ∙ rw r
+          entry-stops new z r = record { is = to-value ∙ rw (r .is); kept = kept-less at u mid new (omega (arith, w .grows)) (r .kept) ∙ mid-keeps }
 
           entry-done : i ≤ length s → j ≤ c → c < d → d ≤ length s → (new : List ℕ) (m t : ℕ) (key′ : Bool) → WroteValue AsValue (entryValue ecap n (value ecap n levels true) u (drop d s)) s mid new u m t key′
-              → WrotePair whole s old new i at m u t
+              → WrotePair whole s old new i at m t
           unfolding _>>=_ written
           entry-done wi jc cd dl new m t key′ x =
               let tk : Takes ecap n (value ecap n levels true) = value-takes ecap n levels true in
               let l₁ : length (drop j s) ≤ length (drop i s) = tk .some-left AsKey at (drop i s) (w .tree, u, drop j s) (w .is) in
               let l₂ : length (drop m s) ≤ length (drop d s) = entryValue-le ecap n (value ecap n levels true) tk u (drop d s) (x .tree, t, drop m s) (x .is) in
-              let g : u ≡ at + (6 + length (nm .name)) = w .grows ∙ ap (λ (l : List ℕ). at + length l) (nm .put) ∙ ap (λ (k : ℕ). at + k) (item-length 3 (nm .name)) in
               let same : length mid ≡ length old = ap length (w .bytes) ∙ length-sets old at (written AsKey (w .tree)) in
               record {
                 key = nm .name;
@@ -237,8 +237,7 @@ module _ (s : List ℕ) (i n levels : ℕ) (old : List ℕ) (at : ℕ) where
                 bytes = x .bytes ∙ ap (λ (l : List ℕ). sets l u (encode (x .tree))) (w .bytes ∙ ap (sets old at) (nm .put))
                     ∙ ap (λ (k : ℕ). sets (sets old at (item 3 (nm .name))) k (encode (x .tree))) (w .grows ∙ ap (λ (l : List ℕ). at + length l) (nm .put))
                     ∙ sets-append (item 3 (nm .name)) (encode (x .tree)) old at;
-                ends = omega arith;
-                grows = x .grows;
+                grows = rw length-append (omega (arith, w .grows, x .grows, ap length (nm .put)));
                 fits = omega (arith, x .fits);
                 on = omega (arith, length-drop i s, length-drop j s, length-drop d s, length-drop m s, w .forward, x .forward);
                 forward = x .forward;
@@ -251,10 +250,10 @@ module _ (s : List ℕ) (i n levels : ℕ) (old : List ℕ) (at : ℕ) where
             with-old : AgreesParsed AsValue (entryValue ecap n (value ecap n levels true) u (drop d s)) s mid new u r
             with-old = subst (λ (k : ℕ). AgreesParsed AsValue (entryValue k n (value k n levels true) u (drop d s)) s mid new u r) mid-long x
 
-            pub entry-halts : (z : Refusal) → r ≡ Refused z → whole ≡ refusal z
-            entry-halts z q = entry-stops (toldOf z .number) (toldOf z .line) (toldOf z .step) (refused-is AsValue _ s mid new u r with-old z q)
+            pub entry-halts : (z : Refusal) → r ≡ Refused z → Refuses whole old new at z
+            entry-halts z q = entry-stops new z (refused-is AsValue _ s mid new u r with-old z q)
 
-            pub entry-reads : i ≤ length s → j ≤ c → c < d → d ≤ length s → (m t : ℕ) (key′ : Bool) → r ≡ Done m t key′ → WrotePair whole s old new i at m u t
+            pub entry-reads : i ≤ length s → j ≤ c → c < d → d ≤ length s → (m t : ℕ) (key′ : Bool) → r ≡ Done m t key′ → WrotePair whole s old new i at m t
             entry-reads wi jc cd dl m t key′ q = entry-done wi jc cd dl new m t key′ (wrote-is AsValue _ s mid new u r with-old m t key′ q)
 
 -- ---- what stands between values
@@ -284,15 +283,3 @@ module _ (s : List ℕ) (i : ℕ) where
     pub separators-on : (got : Bool) → separates got (getD s i 0) ≡ true → skipSeparators got (drop i s) ≡ skipSeparators got (drop (i + 1) s)
     unfolding skipSeparators if_then_else_
     separators-on got e = ap (skipSeparators got) (next s i h) ∙ rw e
-
--- ---- where plain text stops, and a sequence is stuck
-
-module _ (s : List ℕ) (i : ℕ) where
-  pub colon-end : i ≡ length s → endsColon (drop i s) ≡ true
-  unfolding endsColon
-  colon-end e = rw (drop-of-length-le s {i = i} (omega arith))
-
-  module _ (h : i < length s) where
-    pub colon-at : endsColon (drop i s) ≡ eqb (getD s i 0) (ch " ") || endsItem (getD s i 0)
-    unfolding endsColon
-    colon-at = rw (next s i h)

@@ -13,7 +13,7 @@ ghost use Rattle.scalar.specs.Contract.{AgreesParsed};
 ghost use Rattle.flow.specs.Flow as definition;
 ghost use Rattle.flow.specs.Flow.{entryValue};
 ghost use Rattle.flow.specs.Contract as agree;
-ghost use Rattle.flow.specs.Contract.{skipSeparators, sequenceOf, mappingOf, entryOf, AgreesPair, AgreesWhole};
+ghost use Rattle.flow.specs.Contract.{skipSeparators, sequenceOf, entriesOf, mappingOf, entryOf, AgreesPair, ReadsEntries, AgreesWhole};
 ghost use Rattle.flow.specs.Ends.{EndsWithin, finishOf};
 use item::put_header;
 use refusal::Refusal;
@@ -31,14 +31,22 @@ pub struct Cursor<'a> {
     pub levels: usize,
 }
 
-// What reading an entry answers: the next place of the line, the end of the key's item and of the value's.
+// What reading an entry answers: the next place of the line, and the bytes of work that are used.
 pub enum PairRead {
-    Done {
-        next: usize,
-        key_end: usize,
-        used: usize,
-    },
+    Done { next: usize, used: usize },
     Refused(Refusal),
+}
+
+// How the entries of a mapping end: closed before the next place of the line, or refused.
+pub enum End {
+    Closed { next: usize },
+    Refused(Refusal),
+}
+
+// What reading entries answers: the bytes of work that are used with those that were read, and how they end.
+pub struct EntriesRead {
+    pub used: usize,
+    pub end: End,
 }
 
 // What reading a whole part answers: the bytes of work that are used, and whether the value can be a key.
@@ -182,52 +190,80 @@ fn entry(s: &[u8], i: usize, levels: usize, line: u32, out: &mut [u8], at: usize
                     next: n,
                     used: u,
                     key: _,
-                } => PairRead::Done {
-                    next: n,
-                    key_end: used,
-                    used: u,
-                },
+                } => PairRead::Done { next: n, used: u },
             }
         }
     }
 }
 
-// The entries behind a `{`.
+// The entries behind a `{`, up to where they end. Their keys are not compared.
+fn entries(
+    s: &[u8],
+    start: usize,
+    levels: usize,
+    line: u32,
+    out: &mut [u8],
+    at: usize,
+) -> EntriesRead
+    requires { ⌜ (start ≤ length (now s)) × (length (now s) ≤ 65535) × (at ≤ length (now out)) × (length (now out) ≤ 2 ^ 20) ⌝ }
+    ensures { λ r. ⌜ ReadsEntries (entriesOf (length (now (out .entry))) line levels at (drop start (now (s .entry)))) line
+        (now (s .entry)) (now (out .entry)) (now (out .exit)) at (r .used) (r .end) ⌝ }
+{
+    let mut i = start;
+    let mut p = at;
+    loop {
+        let j = skip_separators(s, i, p > at);
+        if j == s.len() {
+            return EntriesRead {
+                used: p,
+                end: End::Refused(Refusal::FlowMappingOpen { line }),
+            };
+        }
+        if s[j] == b'}' {
+            return EntriesRead {
+                used: p,
+                end: End::Closed { next: j + 1 },
+            };
+        }
+        match entry(s, j, levels, line, out, p) {
+            PairRead::Done { next, used } => {
+                i = next;
+                p = used;
+            }
+            PairRead::Refused(e) => {
+                return EntriesRead {
+                    used: p,
+                    end: End::Refused(e),
+                };
+            }
+        }
+    }
+}
+
+// The mapping behind a `{`. Whether a key stands twice is judged once, of all the entries that were read: they have one line, and come
+// before what refused the next.
 fn mapping(s: &[u8], start: usize, levels: usize, line: u32, out: &mut [u8], at: usize) -> Parsed
     requires { ⌜ (start ≤ length (now s)) × (length (now s) ≤ 65535) × (at + 6 ≤ length (now out)) × (length (now out) ≤ 2 ^ 20) ⌝ }
     ensures { λ r. ⌜ ((role : Roles) → AgreesParsed role (mappingOf (length (now (out .entry))) line levels at (drop start (now
         (s .entry))))
         (now (s .entry)) (now (out .entry)) (now (out .exit)) at r) ⌝ }
 {
-    let mut i = start;
-    let mut p = at + 6;
-    loop {
-        let j = skip_separators(s, i, p > at + 6);
-        if j == s.len() {
-            return Parsed::Refused(Refusal::FlowMappingOpen { line });
-        }
-        if s[j] == b'}' {
-            put_header(out, at, 5, p - at - 6);
-            return Parsed::Done {
-                next: j + 1,
-                used: p,
-                key: false,
-            };
-        }
-        match entry(s, j, levels, line, out, p) {
-            PairRead::Done {
+    let read = entries(s, start, levels, line, out, at + 6);
+    let used = read.used;
+    if entries::repeats(out, at + 6, used) {
+        return Parsed::Refused(Refusal::KeyTwice { line });
+    }
+    let end = read.end;
+    match end {
+        End::Closed { next } => {
+            put_header(out, at, 5, used - at - 6);
+            Parsed::Done {
                 next,
-                key_end,
                 used,
-            } => {
-                if entries::has_key(out, at + 6, p, p + 6, key_end) {
-                    return Parsed::Refused(Refusal::KeyTwice { line });
-                }
-                i = next;
-                p = used;
+                key: false,
             }
-            PairRead::Refused(e) => return Parsed::Refused(e),
         }
+        End::Refused(e) => Parsed::Refused(e),
     }
 }
 

@@ -1,16 +1,16 @@
--- Section 3 of document 01, for contracts: what the readers of lines promise. Uses Base and Told of `refusal`; Tree and Encode of `item`;
--- Lines and Table of `lines`; Literal of this crate. Assumes nothing.
+-- Section 3 of document 01, for contracts: what the readers of lines promise. Uses Base of `refusal`; Tree and Encode of `item`; Lines and
+-- Table of `lines`; Contract of `scalar`; Literal of this crate. Assumes nothing.
 use mathlib.Core.Path.{_≡_}
 use Prim.Native.Nat.{ℕ, _+_, _≤_}
 use mathlib.Core.List.{List}
 use lib.ListN.{length, drop}
 use lib.Seq.{sets}
 use Rattle.refusal.specs.Base.{good}
-use Rattle.refusal.specs.Told.{refusal}
 use Rattle.item.specs.Tree.{Shape, Node}
 use Rattle.item.specs.Encode.{encode}
 use Rattle.lines.specs.Lines.{Line}
 use Rattle.lines.specs.Table.{tableLines}
+use Rattle.scalar.specs.Contract.{Refuses}
 use Rattle.literal.specs.declared.BlockRead.{BlockRead}
 use Rattle.literal.specs.declared.BlockRead.the-variants.{Done, Refused}
 use Rattle.literal.specs.Literal.{Read}
@@ -27,7 +27,7 @@ pub record WroteBlock {s : Shape} (answer : Read (Node s)) (ls : List Line) (i :
 
 abbrev pub AgreesBlock : {s : Shape} → Read (Node s) → List Line → ℕ → List ℕ → List ℕ → ℕ → BlockRead → Type 0
 AgreesBlock answer ls i old new at (Done next used) = WroteBlock answer ls i old new at next used
-AgreesBlock answer ls i old new at (Refused e) = answer ≡ refusal e
+AgreesBlock answer ls i old new at (Refused e) = Refuses answer old new at e
 
 -- the same of the lines of a table from `i` on, by what is read of lines with so many bytes of work
 abbrev pub ReadsLines : {s : Shape} → (ℕ → List Line → Read (Node s)) → List ℕ → List ℕ → ℕ → ℕ → List ℕ → List ℕ → ℕ → BlockRead → Type 0

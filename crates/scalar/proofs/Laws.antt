@@ -77,7 +77,10 @@ module _ (role : Role) (y : Yaml) (flat : Flat y) (s old new : List ℕ) (at nex
       }
   puts-agree (Refused e) p =
       let w : length (written role y) ≡ cost role y = written-cost role y flat in
-      rw (p .0, lt-leb (at + cost role y) (length old) (omega (arith, p .1)))
+      record {
+        is = rw (p .0, lt-leb (at + cost role y) (length old) (omega (arith, p .1)));
+        kept = ap (take at) (p .2);
+      }
 
 -- ---- words
 

@@ -79,10 +79,10 @@ pub record Put (old new : List ℕ) (at : ℕ) (bytes : List ℕ) (used : ℕ) :
   pub grows : used ≡ at + length bytes
   pub fits : used ≤ length old
 
--- bytes that are stored, or have no room
+-- bytes that are stored; or they have no room, and nothing is
 abbrev pub Puts : List ℕ → List ℕ → ℕ → ℕ → List ℕ → Bool → Parsed → Type 0
 Puts old new at next bytes key (parsed.Done n used k) = (n ≡ next) × (k ≡ key) × Put old new at bytes used
-Puts old new at next bytes key (parsed.Refused e) = (e ≡ WorkTooShort) × (length old < at + length bytes)
+Puts old new at next bytes key (parsed.Refused e) = (e ≡ WorkTooShort) × (length old < at + length bytes) × (new ≡ old)
 
 -- how many bytes plain text has
 unfoldable pub plainLen : Bool → List ℕ → ℕ

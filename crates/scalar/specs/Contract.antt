@@ -4,10 +4,11 @@ use mathlib.Core.Path.{_≡_}
 use Prim.Native.Nat.{ℕ, _+_, _≤_}
 use mathlib.Core.List.{List, []}
 use mathlib.Core.Bool.{Bool, true, false}
-use lib.ListN.{length, drop}
+use lib.ListN.{length, take, drop}
 use lib.Seq.{sets}
 use Rattle.refusal.specs.Base.{Answer, good}
 use Rattle.refusal.specs.Told.{refusal}
+use Rattle.refusal.specs.declared.Refusal.{Refusal}
 use Rattle.item.specs.Tree.{Yaml, null, bool, int, str, seq, dict}
 use Rattle.item.specs.Encode.{item, encode}
 use Rattle.scalar.specs.declared.Role.{Role}
@@ -36,6 +37,11 @@ isKey (str s) = true
 isKey (seq ys) = false
 isKey (dict es) = false
 
+-- a refusal, before which the bytes in front of `at` were kept
+pub record Refuses {A : Type 0} (answer : Answer A) (old new : List ℕ) (at : ℕ) (e : Refusal) : Type 0 where
+  pub is : answer ≡ refusal e
+  pub kept : take at new ≡ take at old
+
 -- a value read from `s` up to `next`, and written from `at` up to `used`
 pub record WroteValue (role : Role) (answer : Answer (Got Yaml)) (s old new : List ℕ) (at next used : ℕ) (key : Bool) : Type 0 where
   pub tree : Yaml
@@ -48,4 +54,4 @@ pub record WroteValue (role : Role) (answer : Answer (Got Yaml)) (s old new : Li
 
 abbrev pub AgreesParsed : Role → Answer (Got Yaml) → List ℕ → List ℕ → List ℕ → ℕ → Parsed → Type 0
 AgreesParsed role answer s old new at (Done next used key) = WroteValue role answer s old new at next used key
-AgreesParsed role answer s old new at (Refused e) = answer ≡ refusal e
+AgreesParsed role answer s old new at (Refused e) = Refuses answer old new at e

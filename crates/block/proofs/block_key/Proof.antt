@@ -3,7 +3,6 @@ use borrow.Author.Needs.{needs}
 use mathlib.Core.Path.{sym, _∙_}
 use native.Mathlib.Omega.{arith}
 use lib.ListN.{length}
-use Rattle.refusal.specs.Told.{toldOf}
 use Rattle.scalar.specs.declared.Role.the-variants.{AsKey}
 use Rattle.flow.specs.Flow.{flow}
 use Rattle.block.proofs.Parts.{whole-is, stopped-is, key-empty, key-complex, key-refused, key-unnamed, key-done}
@@ -35,7 +34,7 @@ returns-3 c =
     rw (← k .ensures .0) (key-refused t (a .number) (a .levels) (a .out .now) (a .at)
     (omega (arith, c .before .before .before .before .before .before .before .before .before .if1 .left))
     (sym (c .before .before .before .before .before .before .before .before .starts-complex .ensures)
-    ∙ c .before .before .before .before .before .before .before .if2 .left) (toldOf z .number) (toldOf z .line) (toldOf z .step) v)
+    ∙ c .before .before .before .before .before .before .before .if2 .left) _ z v)
 
 returns-4 : tie.Need-returns-4
 returns-4 c =

@@ -1,7 +1,6 @@
 -- By what the flow value is. Assumes nothing.
 use borrow.Author.Needs.{needs}
 use lib.ListN.{length, drop}
-use Rattle.refusal.specs.Told.{toldOf}
 use Rattle.scalar.specs.declared.Role.the-variants.{AsValue}
 use Rattle.flow.specs.Flow.{flow}
 use Rattle.block.proofs.Parts.{whole-is, stopped-is, line-refused, line-done}
@@ -22,7 +21,7 @@ returns-2 c =
     let r = c .before .before .before .before .before .flow in
     let z = c .before .e .given .0 .0 in
     let v = stopped-is AsValue (flow (length (a .out .now)) (a .number) (a .levels) AsValue (a .at) (a .s .now)) (a .out .now) _ (a .at) (r .result) (r .ensures) z (c .before .e .given .1) in
-    λ ls h. line-refused (a .s .now) (a .number) (a .levels) (length (a .out .now)) (a .at) (drop (a .i) ls) (toldOf z .number) (toldOf z .line) (toldOf z .step) v
+    λ ls h. line-refused (a .s .now) (a .number) (a .levels) (a .out .now) _ (a .at) z v (drop (a .i) ls)
 
 pub line-value-spec : {M : Type 1} → statement M
 line-value-spec =

@@ -1,7 +1,7 @@
 -- By the room. Assumes nothing.
 use borrow.Author.Needs.{needs}
 use native.Mathlib.Omega.{arith}
-use lib.ListN.{length, drop}
+use lib.ListN.{drop}
 use Rattle.block.proofs.Parts.{null-full, null-done}
 use Rattle.block.proofs.null.Statement.{statement}
 use Rattle.block.proofs.null.Tie as tie
@@ -9,7 +9,7 @@ use Rattle.block.proofs.null.Tie as tie
 returns : tie.Need-returns
 returns c =
     let a = c .before .before .args in
-    λ ls h. null-full (length (a .out .now)) (a .at) (drop (a .i) ls) (omega (arith, c .if1 .taken))
+    λ ls h. null-full (a .out .now) (a .at) (drop (a .i) ls) (omega (arith, c .if1 .taken))
 
 returns-2 : tie.Need-returns-2
 returns-2 c =

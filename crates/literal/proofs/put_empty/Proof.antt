@@ -1,5 +1,6 @@
 -- A header of no bytes is the empty string. Assumes nothing.
 use borrow.Author.Needs.{needs}
+use mathlib.Core.Path.{refl}
 use mathlib.Core.List.{[]}
 use Prim.Native.Nat.{_+_}
 use native.Mathlib.Omega.{arith}
@@ -11,7 +12,7 @@ use Rattle.literal.proofs.put_empty.Tie as tie
 returns : tie.Need-returns
 returns c = λ ls h.
     let a = c .before .before .args in
-    leaf-short (length (a .out .now)) (a .at) [] (drop (a .i) ls) (omega arith)
+    record { is = leaf-short (length (a .out .now)) (a .at) [] (drop (a .i) ls) (omega arith); kept = refl }
 
 returns-2 : tie.Need-returns-2
 returns-2 c = λ ls h.

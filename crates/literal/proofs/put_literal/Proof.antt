@@ -1,5 +1,6 @@
 -- Measured, and then written, where it fits. Assumes nothing.
 use borrow.Author.Needs.{needs}
+use mathlib.Core.Path.{refl}
 use native.Mathlib.Omega.{arith}
 use lib.ListN.{length}
 use Rattle.literal.proofs.Whole.{kept-range, extent-some, literal-short, literal-wrote}
@@ -31,7 +32,7 @@ returns c =
     let a = s .args in
     let x = c .before .before .extent in
     let n = c .before .kept-len in
-    literal-short (a .text .now) (a .table .now) (a .count) (a .i) (a .indent) (s .pre .0) (s .pre .1) (s .pre .2) (x .result) (x .ensures) (a .strip) (n .result) (n .ensures) (length (a .out .now)) (a .at) (omega arith)
+    record { is = literal-short (a .text .now) (a .table .now) (a .count) (a .i) (a .indent) (s .pre .0) (s .pre .1) (s .pre .2) (x .result) (x .ensures) (a .strip) (n .result) (n .ensures) (length (a .out .now)) (a .at) (omega arith); kept = refl }
 
 put-lines-requires : tie.Need-put-lines-requires
 put-lines-requires c κs =

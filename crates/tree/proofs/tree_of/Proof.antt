@@ -36,7 +36,7 @@ returns-2 c =
     let b = c .before .before .before .before .before .block in
     let e = c .before .e .given in
     let ls = tableLines (a .text .now) (a .table .now) (a .count) in
-    tree-stops ls (a .out .now) (e .0 .0) (block-stopped _ ls 0 (a .out .now) _ 0 (b .result) (b .ensures) (e .0 .0) (e .1))
+    tree-stops ls (a .out .now) (e .0 .0) (block-stopped _ ls 0 (a .out .now) _ 0 (b .result) (b .ensures) (e .0 .0) (e .1) .is)
 
 returns-3 : tie.Need-returns-3
 returns-3 c =

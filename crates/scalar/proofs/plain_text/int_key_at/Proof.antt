@@ -13,7 +13,7 @@ use Rattle.scalar.proofs.plain_text.int_key_at.Statement.{statement}
 use Rattle.scalar.proofs.plain_text.int_key_at.Tie as tie
 
 returns : tie.Need-returns
-returns c = let a = c .before .before .before .args in (refl, omega (arith, item-length 3 (intText (signed (a .negative) (a .magnitude))), c .before .int-len .ensures .0))
+returns c = let a = c .before .before .before .args in (refl, omega (arith, item-length 3 (intText (signed (a .negative) (a .magnitude))), c .before .int-len .ensures .0), refl)
 
 returns-2 : tie.Need-returns-2
 returns-2 c =

@@ -22,7 +22,7 @@ returns-2 c = rw (c .before .before .before .before .before .before .enum-told2 
 
 returns-3 : tie.Need-returns-3
 unfolding written cost
-returns-3 c = let a = c .before .before .before .before .args in rw (c .before .enum-told .given .1) (refl, omega (arith, written-cost AsValue (bool (a .value)) tt))
+returns-3 c = let a = c .before .before .before .before .args in rw (c .before .enum-told .given .1) (refl, omega (arith, written-cost AsValue (bool (a .value)) tt), refl)
 
 returns-4 : tie.Need-returns-4
 unfolding written cost

@@ -17,7 +17,7 @@ returns c = rw (c .before .before .before .before .enum-told2 .given .1) (c .bef
 
 returns-2 : tie.Need-returns-2
 unfolding written cost
-returns-2 c = let a = c .before .before .before .before .args in rw (c .before .enum-told .given .1) (refl, omega (arith, written-cost AsValue (int (signed (a .negative) (a .magnitude))) tt))
+returns-2 c = let a = c .before .before .before .before .args in rw (c .before .enum-told .given .1) (refl, omega (arith, written-cost AsValue (int (signed (a .negative) (a .magnitude))) tt), refl)
 
 returns-3 : tie.Need-returns-3
 unfolding written cost

@@ -16,7 +16,7 @@ returns c = rw (c .enum-told2 .given .1) (refl, refl, record { is = refl; grows 
 
 returns-2 : tie.Need-returns-2
 unfolding written cost
-returns-2 c = rw (c .before .enum-told .given .1) (refl, omega (arith, written-cost AsValue null tt))
+returns-2 c = rw (c .before .enum-told .given .1) (refl, omega (arith, written-cost AsValue null tt), refl)
 
 returns-3 : tie.Need-returns-3
 unfolding written cost

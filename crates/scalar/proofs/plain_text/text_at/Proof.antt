@@ -8,7 +8,7 @@ use Rattle.scalar.proofs.plain_text.text_at.Statement.{statement}
 use Rattle.scalar.proofs.plain_text.text_at.Tie as tie
 
 returns : tie.Need-returns
-returns c = let a = c .before .before .before .args in (refl, omega (arith, item-length 3 (a .t .now)))
+returns c = let a = c .before .before .before .args in (refl, omega (arith, item-length 3 (a .t .now)), refl)
 
 returns-2 : tie.Need-returns-2
 unfolding encode

@@ -26,7 +26,7 @@ returns c =
     let a = c .before .before .before .before .before .before .before .args in
     let cap = length (a .out .now) in
     let k = subst (Spans (quotedOf (a .quote) cap (a .line)) (a .s .now) (a .i)) (c .before .before .next .given .1) (c .before .before .before .before .span-of .ensures cap) in
-    λ role. quoted-agree role (quotedOf (a .quote) cap (a .line)) (a .s .now) (a .out .now) (a .out .now) (a .at) (a .line) (a .i) _ _ k (Refused WorkTooShort) (refl, omega (arith, k .long, item-length 3 (k .content)))
+    λ role. quoted-agree role (quotedOf (a .quote) cap (a .line)) (a .s .now) (a .out .now) (a .out .now) (a .at) (a .line) (a .i) _ _ k (Refused WorkTooShort) (refl, omega (arith, k .long, item-length 3 (k .content)), refl)
 
 put-content-requires : tie.Need-put-content-requires
 put-content-requires c κs =
@@ -52,7 +52,11 @@ returns-3 : tie.Need-returns-3
 returns-3 c =
     let a = c .before .before .before .before .before .before .args in
     let cap = length (a .out .now) in
-    λ role. ap (string cap (a .line) role (a .at)) (subst (Spans (quotedOf (a .quote) cap (a .line)) (a .s .now) (a .i)) (c .before .e .given .1) (c .before .before .before .span-of .ensures cap)) ∙ string-refused cap (a .line) role (a .at) (c .before .e .given .0 .0)
+    let k = subst (Spans (quotedOf (a .quote) cap (a .line)) (a .s .now) (a .i)) (c .before .e .given .1) (c .before .before .before .span-of .ensures cap) in
+    λ role. record {
+      is = ap (string cap (a .line) role (a .at)) k ∙ string-refused cap (a .line) role (a .at) (c .before .e .given .0 .0);
+      kept = refl;
+    }
 
 pub quoted-spec : {M : Type 1} → statement M
 quoted-spec =

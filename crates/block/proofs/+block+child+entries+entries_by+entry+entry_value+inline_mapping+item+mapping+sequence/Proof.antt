@@ -4,7 +4,6 @@ use mathlib.Core.Path.{_≡_, refl, sym, ap, _∙_, subst}
 use Prim.Native.Nat.{ℕ, suc, _+_, _*_, _-_, _≤_, _<_, _^_}
 use native.Mathlib.Omega.{arith}
 use lib.ListN.{length, drop}
-use Rattle.refusal.specs.Base.{refused}
 use Rattle.utf8.specs.White.{trim, trimStart}
 use Rattle.lines.specs.Table.{tableLines, lineAt, startAt, numberAt}
 use Rattle.lines.proofs.Rows.{rows-end, in-lines, in-table, rows-next, entry-inside}
@@ -15,37 +14,41 @@ use Rattle.block.specs.Block.{valueBehind, entriesOf, itemBehind, within
 use Rattle.block.specs.Contract.{keyHere, columnAt, textAt}
 use Rattle.block.proofs.Parts.{found-at, found-nothing}
 use Rattle.block.proofs.Cases.{agrees-block, block-done, block-stopped, key-done, key-stopped, entry-done, entry-stopped, block-end, child-end}
+use Rattle.block.proofs.Judging.{ran-once, ran-again}
 use Rattle.block.proofs.Invariants.{Mapped, mapped-start, mapped-end, map-stops, map-twice, map-on, Listed, listed-start, list-full, list-close, list-stops, list-on, map-full, map-refused, map-close, inline-full, inline-stops, inline-later, inline-twice, inline-close}
 use Rattle.block.proofs.Places.{key-there, dash-there, dash-text, key-splits, entry-as, column-is, key-first, block-line-at, sequence-deep-at, block-sequence-at, mapping-deep-at, block-mapping-at, child-deeper-at, child-none-at, value-nothing-at, value-literal-at, value-stripped-at, value-line-at, entry-unkeyed-at, entry-unvalued-at, entry-done-at, item-child-at, item-line-at, item-splits, item-deep-at, item-inline-at}
 use borrow.Fn.Kinds.{In}
 use borrow.Fn.PlainCycle.{Measures, is, falls, and}
 use Rattle.block.proofs.block.Reads as block
 use Rattle.block.proofs.block.Kinds as block-kinds
-use Rattle.block.proofs.+block+child+entries+entry+entry_value+inline_mapping+item+mapping+sequence.Lts-block as block-lts
+use Rattle.block.proofs.+block+child+entries+entries_by+entry+entry_value+inline_mapping+item+mapping+sequence.Lts-block as block-lts
 use Rattle.block.proofs.child.Reads as child
 use Rattle.block.proofs.child.Kinds as child-kinds
-use Rattle.block.proofs.+block+child+entries+entry+entry_value+inline_mapping+item+mapping+sequence.Lts-child as child-lts
+use Rattle.block.proofs.+block+child+entries+entries_by+entry+entry_value+inline_mapping+item+mapping+sequence.Lts-child as child-lts
 use Rattle.block.proofs.entries.Reads as entries
 use Rattle.block.proofs.entries.Kinds as entries-kinds
-use Rattle.block.proofs.+block+child+entries+entry+entry_value+inline_mapping+item+mapping+sequence.Lts-entries as entries-lts
+use Rattle.block.proofs.+block+child+entries+entries_by+entry+entry_value+inline_mapping+item+mapping+sequence.Lts-entries as entries-lts
+use Rattle.block.proofs.entries_by.Reads as entries-by
+use Rattle.block.proofs.entries_by.Kinds as entries-by-kinds
+use Rattle.block.proofs.+block+child+entries+entries_by+entry+entry_value+inline_mapping+item+mapping+sequence.Lts-entries_by as entries-by-lts
 use Rattle.block.proofs.entry.Reads as entry
 use Rattle.block.proofs.entry.Kinds as entry-kinds
-use Rattle.block.proofs.+block+child+entries+entry+entry_value+inline_mapping+item+mapping+sequence.Lts-entry as entry-lts
+use Rattle.block.proofs.+block+child+entries+entries_by+entry+entry_value+inline_mapping+item+mapping+sequence.Lts-entry as entry-lts
 use Rattle.block.proofs.entry_value.Reads as entry-value
 use Rattle.block.proofs.entry_value.Kinds as entry-value-kinds
-use Rattle.block.proofs.+block+child+entries+entry+entry_value+inline_mapping+item+mapping+sequence.Lts-entry_value as entry-value-lts
+use Rattle.block.proofs.+block+child+entries+entries_by+entry+entry_value+inline_mapping+item+mapping+sequence.Lts-entry_value as entry-value-lts
 use Rattle.block.proofs.inline_mapping.Reads as inline-mapping
 use Rattle.block.proofs.inline_mapping.Kinds as inline-mapping-kinds
-use Rattle.block.proofs.+block+child+entries+entry+entry_value+inline_mapping+item+mapping+sequence.Lts-inline_mapping as inline-mapping-lts
+use Rattle.block.proofs.+block+child+entries+entries_by+entry+entry_value+inline_mapping+item+mapping+sequence.Lts-inline_mapping as inline-mapping-lts
 use Rattle.block.proofs.item.Reads as item
 use Rattle.block.proofs.item.Kinds as item-kinds
-use Rattle.block.proofs.+block+child+entries+entry+entry_value+inline_mapping+item+mapping+sequence.Lts-item as item-lts
+use Rattle.block.proofs.+block+child+entries+entries_by+entry+entry_value+inline_mapping+item+mapping+sequence.Lts-item as item-lts
 use Rattle.block.proofs.mapping.Reads as mapping
 use Rattle.block.proofs.mapping.Kinds as mapping-kinds
-use Rattle.block.proofs.+block+child+entries+entry+entry_value+inline_mapping+item+mapping+sequence.Lts-mapping as mapping-lts
+use Rattle.block.proofs.+block+child+entries+entries_by+entry+entry_value+inline_mapping+item+mapping+sequence.Lts-mapping as mapping-lts
 use Rattle.block.proofs.sequence.Reads as sequence
 use Rattle.block.proofs.sequence.Kinds as sequence-kinds
-use Rattle.block.proofs.+block+child+entries+entry+entry_value+inline_mapping+item+mapping+sequence.Lts-sequence as sequence-lts
+use Rattle.block.proofs.+block+child+entries+entries_by+entry+entry_value+inline_mapping+item+mapping+sequence.Lts-sequence as sequence-lts
 use Rattle.block.proofs.behind_colon.Reads as behind-colon-reads
 use Rattle.block.proofs.block_key.Reads as block-key-reads
 use Rattle.block.proofs.goes_on.Reads as goes-on-reads
@@ -53,7 +56,9 @@ use Rattle.block.proofs.key_at.Reads as key-at-reads
 use Rattle.block.proofs.line_value.Reads as line-value-reads
 use Rattle.block.proofs.null.Reads as null-reads
 use Rattle.block.proofs.opens_with.Reads as opens-with-reads
+use Rattle.block.proofs.repeated.Reads as repeated-reads
 use Rattle.item.proofs.put_header.Reads as put-header-reads
+use Rattle.entries.proofs.repeats.Reads as repeats-reads
 use Rattle.entries.proofs.has_key.Reads as has-key-reads
 use Rattle.lines.proofs.entry_at.Reads as entry-at-reads
 use Rattle.lines.proofs.line_text.Reads as line-text-reads
@@ -61,10 +66,10 @@ use Rattle.literal.proofs.literal.Reads as literal-reads
 use Rattle.scalar.proofs.key_end.Reads as key-end-reads
 use Rattle.utf8.proofs.trim_start.Reads as trim-start-reads
 use Rattle.utf8.proofs.trimmed.Reads as trimmed-reads
-use Rattle.block.proofs.+block+child+entries+entry+entry_value+inline_mapping+item+mapping+sequence.{
+use Rattle.block.proofs.+block+child+entries+entries_by+entry+entry_value+inline_mapping+item+mapping+sequence.{
   statement,
 }
-use Rattle.block.proofs.+block+child+entries+entry+entry_value+inline_mapping+item+mapping+sequence.Tie.{
+use Rattle.block.proofs.+block+child+entries+entries_by+entry+entry_value+inline_mapping+item+mapping+sequence.Tie.{
   close,
 }
 
@@ -75,7 +80,10 @@ abbrev μ-child : Measures 3 child-kinds.ps ℕ
 μ-child κs a = 8 * a .1 .1 .1 .1 .1 .0 + 1
 
 abbrev μ-entries : Measures 3 entries-kinds.ps ℕ
-μ-entries κs a = 8 * a .1 .1 .1 .1 .1 .1 .0 + 4
+μ-entries κs a = 8 * a .1 .1 .1 .1 .1 .1 .0 + 5
+
+abbrev μ-entries-by : Measures 3 entries-by-kinds.ps ℕ
+μ-entries-by κs a = 8 * a .1 .1 .1 .1 .1 .1 .0 + 4
 
 abbrev μ-entry : Measures 3 entry-kinds.ps ℕ
 μ-entry κs a = 8 * a .1 .1 .1 .1 .1 .1 .0 + 3
@@ -84,13 +92,13 @@ abbrev μ-entry-value : Measures 3 entry-value-kinds.ps ℕ
 μ-entry-value κs a = 8 * a .1 .1 .1 .1 .1 .1 .0 + 2
 
 abbrev μ-inline-mapping : Measures 3 inline-mapping-kinds.ps ℕ
-μ-inline-mapping κs a = 8 * a .1 .1 .1 .1 .1 .1 .0 + 5
+μ-inline-mapping κs a = 8 * a .1 .1 .1 .1 .1 .1 .0 + 6
 
 abbrev μ-item : Measures 3 item-kinds.ps ℕ
 μ-item κs a = 8 * a .1 .1 .1 .1 .0 + 2
 
 abbrev μ-mapping : Measures 3 mapping-kinds.ps ℕ
-μ-mapping κs a = 8 * a .1 .1 .1 .1 .1 .1 .0 + 5
+μ-mapping κs a = 8 * a .1 .1 .1 .1 .1 .1 .0 + 6
 
 abbrev μ-sequence : Measures 3 sequence-kinds.ps ℕ
 μ-sequence κs a = 8 * a .1 .1 .1 .1 .1 .0 + 3
@@ -112,6 +120,13 @@ entries-at t = and 3 entries-kinds.ps (is 3 entries-kinds.ps μ-entries t) entri
 
 abbrev entries-below : ℕ → In 3 entries-kinds.ps
 entries-below t = and 3 entries-kinds.ps (falls 3 entries-kinds.ps _<_ μ-entries t) entries.Pre
+
+abbrev entries-by-at : ℕ → In 3 entries-by-kinds.ps
+entries-by-at t = and 3 entries-by-kinds.ps (is 3 entries-by-kinds.ps μ-entries-by t) entries-by.Pre
+
+abbrev entries-by-below : ℕ → In 3 entries-by-kinds.ps
+entries-by-below t =
+    and 3 entries-by-kinds.ps (falls 3 entries-by-kinds.ps _<_ μ-entries-by t) entries-by.Pre
 
 abbrev entry-at : ℕ → In 3 entry-kinds.ps
 entry-at t = and 3 entry-kinds.ps (is 3 entry-kinds.ps μ-entry t) entry.Pre
@@ -308,23 +323,57 @@ child-returns-3 t c =
     let h : a .i < a .count = omega (arith, pre .1 .1, if1 .left) in
     agrees-block _ _ ls (a .i) (a .i) (a .out .now) _ (a .at) (null2′ .result) (child-none-at text table (a .count) (a .i) h (x .result) (x .ensures) cap (a .levels) (a .at) (a .indent) (omega (arith, if2 .left))) (omega arith) (null2′ .ensures ls (in-lines text table (a .count) (a .i) (pre .1 .1)))
 
-abbrev entries-Inv-loop : entries-lts.InvT-loop
-entries-Inv-loop text table count first indent levels out₀ at i₀ key₀ p₀ out i key p = Mapped (tableLines text table count) first indent levels out₀ at out i p × (key ≡ foundOf (keyHere indent (drop i (tableLines text table count))))
+entries-entries-by-requires : (t : ℕ) → entries-lts.Need-entries-by-requires (entries-by-below t, entries-by.Post, repeats-reads.Asked, repeats-reads.Learnt) (entries-at t) entries.Post
+entries-entries-by-requires t c κs =
+    let pre = c .before .before .before .before .pre in
+    (omega arith, pre .1)
 
-abbrev entries-μ-loop : entries-lts.MeasureT-loop
-entries-μ-loop text table count first indent levels out₀ at i₀ key₀ p₀ out i key p = count - i
+entries-repeats-requires : (t : ℕ) → entries-lts.Need-repeats-requires (entries-by-below t, entries-by.Post, repeats-reads.Asked, repeats-reads.Learnt) (entries-at t) entries.Post
+entries-repeats-requires t c κs =
+    let pre = c .before .before .before .before .before .before .before .before .pre in
+    let run = c .before .before .before .entries-by in
+    let w = run .ensures .lies in
+    (omega (arith, w .ends), omega (arith, w .ends, w .stands .within), omega (arith, run .kept .1 .1 .1 .1 .1 .1 .1 .1 .0, pre .1 .4))
 
-entries-loop-holds : (t : ℕ) → entries-lts.Need-loop-holds (entry-at-reads.Asked, entry-at-reads.Learnt, entry-below t, entry.Post, has-key-reads.Asked, has-key-reads.Learnt, key-at-reads.Asked, key-at-reads.Learnt) (entries-at t) entries.Post entries-Inv-loop entries-μ-loop
-entries-loop-holds t c =
+entries-entries-by-requires-2 : (t : ℕ) → entries-lts.Need-entries-by-requires-2 (entries-by-below t, entries-by.Post, repeats-reads.Asked, repeats-reads.Learnt) (entries-at t) entries.Post
+entries-entries-by-requires-2 t c κs =
+    let pre = c .before .before .before .before .before .before .before .before .before .before .before .pre in
+    let n = c .before .before .before .before .before .before .entries-by .kept .1 .1 .1 .1 .1 .1 .1 .1 .0 in
+    (omega arith, (pre .1 .0, pre .1 .1, pre .1 .2, omega (arith, n, pre .1 .3), omega (arith, n, pre .1 .4)))
+
+entries-returns : (t : ℕ) → entries-lts.Need-returns (entries-by-below t, entries-by.Post, repeats-reads.Asked, repeats-reads.Learnt) (entries-at t) entries.Post
+entries-returns t c =
+    let a = c .before .before .before .before .before .before .before .before .before .before .before .before .before .before .args in
+    let ls = tableLines (a .text .now) (a .table .now) (a .count) in
+    let run = c .before .before .before .before .before .before .before .before .before .entries-by in
+    let repeats′ = c .before .before .before .before .before .repeats in
+    let again = c .before .before .entries-by2 in
+    let w = run .ensures in
+    ran-again w (sym (repeats′ .ensures (w .got) (w .lies)) ∙ c .before .before .before .before .if1 .taken) _ (again .result .answer)
+    (ap (λ (k : ℕ). entriesOf k (within k (a .levels)) (a .indent) (a .at) (drop (a .first) ls)) (sym (run .kept .1 .1 .1 .1 .1 .1 .1 .1 .0))) (again .ensures)
+
+entries-returns-2 : (t : ℕ) → entries-lts.Need-returns-2 (entries-by-below t, entries-by.Post, repeats-reads.Asked, repeats-reads.Learnt) (entries-at t) entries.Post
+entries-returns-2 t c =
+    let w = c .before .before .before .before .before .entries-by .ensures in
+    ran-once w (sym (c .before .repeats .ensures (w .got) (w .lies)) ∙ c .if1 .left)
+
+abbrev entries-by-Inv-loop : entries-by-lts.InvT-loop
+entries-by-Inv-loop text table count first indent levels exact out₀ at i₀ key₀ p₀ out i key p = Mapped (tableLines text table count) first indent levels exact out₀ at out i p × (key ≡ foundOf (keyHere indent (drop i (tableLines text table count))))
+
+abbrev entries-by-μ-loop : entries-by-lts.MeasureT-loop
+entries-by-μ-loop text table count first indent levels exact out₀ at i₀ key₀ p₀ out i key p = count - i
+
+entries-by-loop-holds : (t : ℕ) → entries-by-lts.Need-loop-holds (entry-at-reads.Asked, entry-at-reads.Learnt, entry-below t, entry.Post, repeated-reads.Asked, repeated-reads.Learnt, key-at-reads.Asked, key-at-reads.Learnt) (entries-by-at t) entries-by.Post entries-by-Inv-loop entries-by-μ-loop
+entries-by-loop-holds t c =
     let a = c .before .before .before .args in
     let text = a .text .now in
     let table = a .table .now in
     let ls = tableLines text table (a .count) in
     let pre = c .before .before .before .pre in
-    (mapped-start ls (a .first) (a .indent) (a .levels) (a .out .now) (a .at) (pre .1 .3) (in-lines text table (a .count) (a .first) (pre .1 .1)), pre .1 .2)
+    (mapped-start ls (a .first) (a .indent) (a .levels) (a .exact) (a .out .now) (a .at) (pre .1 .3) (in-lines text table (a .count) (a .first) (pre .1 .1)), pre .1 .2)
 
-entries-entry-at-requires : (t : ℕ) → entries-lts.Need-entry-at-requires (entry-at-reads.Asked, entry-at-reads.Learnt, entry-below t, entry.Post, has-key-reads.Asked, has-key-reads.Learnt, key-at-reads.Asked, key-at-reads.Learnt) (entries-at t) entries.Post entries-Inv-loop entries-μ-loop
-entries-entry-at-requires t c κs =
+entries-by-entry-at-requires : (t : ℕ) → entries-by-lts.Need-entry-at-requires (entry-at-reads.Asked, entry-at-reads.Learnt, entry-below t, entry.Post, repeated-reads.Asked, repeated-reads.Learnt, key-at-reads.Asked, key-at-reads.Learnt) (entries-by-at t) entries-by.Post entries-by-Inv-loop entries-by-μ-loop
+entries-by-entry-at-requires t c κs =
     let a = c .before .before .before .before .before .before .before .args in
     let text = a .text .now in
     let table = a .table .now in
@@ -336,8 +385,8 @@ entries-entry-at-requires t c κs =
     let h = key-there text table (a .count) (l .i) (a .indent) (split .given .0 .0) (l .inv .0 .within′) k in
     omega (arith, h, pre .1 .0 .few, pre .1 .0 .whole)
 
-entries-entry-requires : (t : ℕ) → entries-lts.Need-entry-requires (entry-at-reads.Asked, entry-at-reads.Learnt, entry-below t, entry.Post, has-key-reads.Asked, has-key-reads.Learnt, key-at-reads.Asked, key-at-reads.Learnt) (entries-at t) entries.Post entries-Inv-loop entries-μ-loop
-entries-entry-requires t c κs =
+entries-by-entry-requires : (t : ℕ) → entries-by-lts.Need-entry-requires (entry-at-reads.Asked, entry-at-reads.Learnt, entry-below t, entry.Post, repeated-reads.Asked, repeated-reads.Learnt, key-at-reads.Asked, key-at-reads.Learnt) (entries-by-at t) entries-by.Post entries-by-Inv-loop entries-by-μ-loop
+entries-by-entry-requires t c κs =
     let a = c .before .before .before .before .before .before .before .before .before .args in
     let text = a .text .now in
     let table = a .table .now in
@@ -350,8 +399,8 @@ entries-entry-requires t c κs =
     let h = key-there text table (a .count) (l .i) (a .indent) (split .given .0 .0) (l .inv .0 .within′) k in
     (omega arith, (pre .1 .0, h, key-splits text table (a .count) (l .i) h (x .result) (x .ensures) (a .indent) (split .given .0 .0) k (pre .1 .0), omega (arith, l .inv .0 .room, l .inv .0 .kept), omega (arith, l .inv .0 .kept, pre .1 .4)))
 
-entries-returns : (t : ℕ) → entries-lts.Need-returns (entry-at-reads.Asked, entry-at-reads.Learnt, entry-below t, entry.Post, has-key-reads.Asked, has-key-reads.Learnt, key-at-reads.Asked, key-at-reads.Learnt) (entries-at t) entries.Post entries-Inv-loop entries-μ-loop
-entries-returns t c =
+entries-by-returns : (t : ℕ) → entries-by-lts.Need-returns (entry-at-reads.Asked, entry-at-reads.Learnt, entry-below t, entry.Post, repeated-reads.Asked, repeated-reads.Learnt, key-at-reads.Asked, key-at-reads.Learnt) (entries-by-at t) entries-by.Post entries-by-Inv-loop entries-by-μ-loop
+entries-by-returns t c =
     let a = c .before .before .before .before .before .before .before .before .before .before .before .before .before .before .before .args in
     let text = a .text .now in
     let table = a .table .now in
@@ -364,10 +413,10 @@ entries-returns t c =
     let e = c .before .e in
     let k = found-at (keyHere (a .indent) (drop (l .i) ls)) (split .given .0 .0) (sym (split .given .1) ∙ l .inv .1) in
     let h = key-there text table (a .count) (l .i) (a .indent) (split .given .0 .0) (l .inv .0 .within′) k in
-    map-stops ls (a .first) (a .indent) (a .levels) (a .out .now) (a .at) (l .out) (l .i) (l .p) (l .inv .0) (lineAt text table (l .i)) (drop (l .i + 1) ls) (rows-next text table (a .count) (l .i) h) (split .given .0 .0) k (e .given .0 .0) (entry-stopped _ _ ls (l .i + 1) (l .out) _ (l .p) (entry-as text table (a .count) (l .i) h (x .result) (x .ensures) (a .indent) (split .given .0 .0) k (length (l .out)) cap (a .levels) (l .p) (l .inv .0 .kept)) (entry′ .result) (entry′ .ensures) (e .given .0 .0) (e .given .1))
+    map-stops ls (a .first) (a .indent) (a .levels) (a .exact) (a .out .now) (a .at) (l .out) (l .i) (l .p) (l .inv .0) (lineAt text table (l .i)) (drop (l .i + 1) ls) (rows-next text table (a .count) (l .i) h) (split .given .0 .0) k (e .given .0 .0) (entry′ .kept .1 .1 .1 .1 .1 .1 .1 .0) (entry-stopped _ _ ls (l .i + 1) (l .out) _ (l .p) (entry-as text table (a .count) (l .i) h (x .result) (x .ensures) (a .indent) (split .given .0 .0) k (length (l .out)) cap (a .levels) (l .p) (l .inv .0 .kept)) (entry′ .result) (entry′ .ensures) (e .given .0 .0) (e .given .1))
 
-entries-has-key-requires : (t : ℕ) → entries-lts.Need-has-key-requires (entry-at-reads.Asked, entry-at-reads.Learnt, entry-below t, entry.Post, has-key-reads.Asked, has-key-reads.Learnt, key-at-reads.Asked, key-at-reads.Learnt) (entries-at t) entries.Post entries-Inv-loop entries-μ-loop
-entries-has-key-requires t c κs =
+entries-by-repeated-requires : (t : ℕ) → entries-by-lts.Need-repeated-requires (entry-at-reads.Asked, entry-at-reads.Learnt, entry-below t, entry.Post, repeated-reads.Asked, repeated-reads.Learnt, key-at-reads.Asked, key-at-reads.Learnt) (entries-by-at t) entries-by.Post entries-by-Inv-loop entries-by-μ-loop
+entries-by-repeated-requires t c κs =
     let a = c .before .before .before .before .before .before .before .before .before .before .before .before .before .before .before .before .args in
     let text = a .text .now in
     let table = a .table .now in
@@ -384,8 +433,8 @@ entries-has-key-requires t c κs =
     let w = entry-done _ _ ls (l .i + 1) (l .out) _ (l .p) (entry-as text table (a .count) (l .i) h (x .result) (x .ensures) (a .indent) (split .given .0 .0) k (length (l .out)) cap (a .levels) (l .p) (l .inv .0 .kept)) (entry′ .result) (entry′ .ensures) (next .given .0 .0) (next .given .0 .1 .0) (next .given .0 .1 .1 .0) (next .given .1) in
     let n = (entry′ .kept .1 .1 .1 .1 .1 .1 .1 .0) in (omega (arith, l .inv .0 .used), omega (arith, w .ends, w .grows, w .fits, n), omega (arith, w .ends), omega (arith, w .grows, w .fits, n), omega (arith, l .inv .0 .kept, n, pre .1 .4))
 
-entries-returns-2 : (t : ℕ) → entries-lts.Need-returns-2 (entry-at-reads.Asked, entry-at-reads.Learnt, entry-below t, entry.Post, has-key-reads.Asked, has-key-reads.Learnt, key-at-reads.Asked, key-at-reads.Learnt) (entries-at t) entries.Post entries-Inv-loop entries-μ-loop
-entries-returns-2 t c =
+entries-by-returns-2 : (t : ℕ) → entries-by-lts.Need-returns-2 (entry-at-reads.Asked, entry-at-reads.Learnt, entry-below t, entry.Post, repeated-reads.Asked, repeated-reads.Learnt, key-at-reads.Asked, key-at-reads.Learnt) (entries-by-at t) entries-by.Post entries-by-Inv-loop entries-by-μ-loop
+entries-by-returns-2 t c =
     let a = c .before .before .before .before .before .before .before .before .before .before .before .before .before .before .before .before .before .before .args in
     let text = a .text .now in
     let table = a .table .now in
@@ -396,15 +445,15 @@ entries-returns-2 t c =
     let x = c .before .before .before .before .before .before .before .before .before .before .entry-at in
     let entry′ = c .before .before .before .before .before .before .before .before .entry in
     let next = c .before .before .before .before .next in
-    let has-key′ = c .before .has-key in
+    let repeated′ = c .before .repeated in
     let if1 = c .if1 in
     let k = found-at (keyHere (a .indent) (drop (l .i) ls)) (split .given .0 .0) (sym (split .given .1) ∙ l .inv .1) in
     let h = key-there text table (a .count) (l .i) (a .indent) (split .given .0 .0) (l .inv .0 .within′) k in
     let w = entry-done _ _ ls (l .i + 1) (l .out) _ (l .p) (entry-as text table (a .count) (l .i) h (x .result) (x .ensures) (a .indent) (split .given .0 .0) k (length (l .out)) cap (a .levels) (l .p) (l .inv .0 .kept)) (entry′ .result) (entry′ .ensures) (next .given .0 .0) (next .given .0 .1 .0) (next .given .0 .1 .1 .0) (next .given .1) in
-    map-twice ls (a .first) (a .indent) (a .levels) (a .out .now) (a .at) (l .out) (l .i) (l .p) (l .inv .0) (lineAt text table (l .i)) (drop (l .i + 1) ls) (rows-next text table (a .count) (l .i) h) (split .given .0 .0) k _ (next .given .0 .0) (next .given .0 .1 .0) (next .given .0 .1 .1 .0) w (has-key′ .result) (has-key′ .ensures) (if1 .taken) ∙ ap (λ (n : ℕ). refused 18 n 0) (sym (x .ensures .number′))
+    map-twice ls (a .first) (a .indent) (a .levels) (a .exact) (a .out .now) (a .at) (l .out) (l .i) (l .p) (l .inv .0) (lineAt text table (l .i)) (drop (l .i + 1) ls) (rows-next text table (a .count) (l .i) h) (split .given .0 .0) k _ (next .given .0 .0) (next .given .0 .1 .0) (next .given .0 .1 .1 .0) w (repeated′ .result) (repeated′ .ensures) (if1 .taken) (x .result .number) (x .ensures .number′)
 
-entries-key-at-requires : (t : ℕ) → entries-lts.Need-key-at-requires (entry-at-reads.Asked, entry-at-reads.Learnt, entry-below t, entry.Post, has-key-reads.Asked, has-key-reads.Learnt, key-at-reads.Asked, key-at-reads.Learnt) (entries-at t) entries.Post entries-Inv-loop entries-μ-loop
-entries-key-at-requires t c κs =
+entries-by-key-at-requires : (t : ℕ) → entries-by-lts.Need-key-at-requires (entry-at-reads.Asked, entry-at-reads.Learnt, entry-below t, entry.Post, repeated-reads.Asked, repeated-reads.Learnt, key-at-reads.Asked, key-at-reads.Learnt) (entries-by-at t) entries-by.Post entries-by-Inv-loop entries-by-μ-loop
+entries-by-key-at-requires t c κs =
     let a = c .before .before .before .before .before .before .before .before .before .before .before .before .before .before .before .before .before .before .args in
     let text = a .text .now in
     let table = a .table .now in
@@ -421,8 +470,8 @@ entries-key-at-requires t c κs =
     let w = entry-done _ _ ls (l .i + 1) (l .out) _ (l .p) (entry-as text table (a .count) (l .i) h (x .result) (x .ensures) (a .indent) (split .given .0 .0) k (length (l .out)) cap (a .levels) (l .p) (l .inv .0 .kept)) (entry′ .result) (entry′ .ensures) (next .given .0 .0) (next .given .0 .1 .0) (next .given .0 .1 .1 .0) (next .given .1) in
     (pre .1 .0, in-table text table (a .count) (next .given .0 .0) (w .within))
 
-entries-loop-less : (t : ℕ) → entries-lts.Need-loop-less (entry-at-reads.Asked, entry-at-reads.Learnt, entry-below t, entry.Post, has-key-reads.Asked, has-key-reads.Learnt, key-at-reads.Asked, key-at-reads.Learnt) (entries-at t) entries.Post entries-Inv-loop entries-μ-loop
-entries-loop-less t c =
+entries-by-loop-less : (t : ℕ) → entries-by-lts.Need-loop-less (entry-at-reads.Asked, entry-at-reads.Learnt, entry-below t, entry.Post, repeated-reads.Asked, repeated-reads.Learnt, key-at-reads.Asked, key-at-reads.Learnt) (entries-by-at t) entries-by.Post entries-by-Inv-loop entries-by-μ-loop
+entries-by-loop-less t c =
     let a = c .before .before .before .before .before .before .before .before .before .before .before .before .before .before .before .before .before .before .before .args in
     let text = a .text .now in
     let table = a .table .now in
@@ -438,8 +487,8 @@ entries-loop-less t c =
     let w = entry-done _ _ ls (l .i + 1) (l .out) _ (l .p) (entry-as text table (a .count) (l .i) h (x .result) (x .ensures) (a .indent) (split .given .0 .0) k (length (l .out)) cap (a .levels) (l .p) (l .inv .0 .kept)) (entry′ .result) (entry′ .ensures) (next .given .0 .0) (next .given .0 .1 .0) (next .given .0 .1 .1 .0) (next .given .1) in
     omega (arith, w .on, in-table text table (a .count) (next .given .0 .0) (w .within))
 
-entries-loop-again : (t : ℕ) → entries-lts.Need-loop-again (entry-at-reads.Asked, entry-at-reads.Learnt, entry-below t, entry.Post, has-key-reads.Asked, has-key-reads.Learnt, key-at-reads.Asked, key-at-reads.Learnt) (entries-at t) entries.Post entries-Inv-loop entries-μ-loop
-entries-loop-again t c =
+entries-by-loop-again : (t : ℕ) → entries-by-lts.Need-loop-again (entry-at-reads.Asked, entry-at-reads.Learnt, entry-below t, entry.Post, repeated-reads.Asked, repeated-reads.Learnt, key-at-reads.Asked, key-at-reads.Learnt) (entries-by-at t) entries-by.Post entries-by-Inv-loop entries-by-μ-loop
+entries-by-loop-again t c =
     let a = c .before .before .before .before .before .before .before .before .before .before .before .before .before .before .before .before .before .before .before .args in
     let text = a .text .now in
     let table = a .table .now in
@@ -450,22 +499,22 @@ entries-loop-again t c =
     let x = c .before .before .before .before .before .before .before .before .before .before .before .entry-at in
     let entry′ = c .before .before .before .before .before .before .before .before .before .entry in
     let next = c .before .before .before .before .before .next in
-    let has-key′ = c .before .before .has-key in
+    let repeated′ = c .before .before .repeated in
     let if1 = c .before .if1 in
     let k = found-at (keyHere (a .indent) (drop (l .i) ls)) (split .given .0 .0) (sym (split .given .1) ∙ l .inv .1) in
     let h = key-there text table (a .count) (l .i) (a .indent) (split .given .0 .0) (l .inv .0 .within′) k in
     let w = entry-done _ _ ls (l .i + 1) (l .out) _ (l .p) (entry-as text table (a .count) (l .i) h (x .result) (x .ensures) (a .indent) (split .given .0 .0) k (length (l .out)) cap (a .levels) (l .p) (l .inv .0 .kept)) (entry′ .result) (entry′ .ensures) (next .given .0 .0) (next .given .0 .1 .0) (next .given .0 .1 .1 .0) (next .given .1) in
-    (map-on ls (a .first) (a .indent) (a .levels) (a .out .now) (a .at) (l .out) (l .i) (l .p) (l .inv .0) (lineAt text table (l .i)) (drop (l .i + 1) ls) (rows-next text table (a .count) (l .i) h) (split .given .0 .0) k _ (next .given .0 .0) (next .given .0 .1 .0) (next .given .0 .1 .1 .0) w (has-key′ .result) (has-key′ .ensures) (if1 .left), c .key-at .ensures)
+    (map-on ls (a .first) (a .indent) (a .levels) (a .exact) (a .out .now) (a .at) (l .out) (l .i) (l .p) (l .inv .0) (lineAt text table (l .i)) (drop (l .i + 1) ls) (rows-next text table (a .count) (l .i) h) (split .given .0 .0) k _ (next .given .0 .0) (next .given .0 .1 .0) (next .given .0 .1 .1 .0) w (repeated′ .result) (repeated′ .ensures) (if1 .left), c .key-at .ensures)
 
-entries-returns-3 : (t : ℕ) → entries-lts.Need-returns-3 (entry-at-reads.Asked, entry-at-reads.Learnt, entry-below t, entry.Post, has-key-reads.Asked, has-key-reads.Learnt, key-at-reads.Asked, key-at-reads.Learnt) (entries-at t) entries.Post entries-Inv-loop entries-μ-loop
-entries-returns-3 t c =
+entries-by-returns-3 : (t : ℕ) → entries-by-lts.Need-returns-3 (entry-at-reads.Asked, entry-at-reads.Learnt, entry-below t, entry.Post, repeated-reads.Asked, repeated-reads.Learnt, key-at-reads.Asked, key-at-reads.Learnt) (entries-by-at t) entries-by.Post entries-by-Inv-loop entries-by-μ-loop
+entries-by-returns-3 t c =
     let a = c .before .before .before .before .before .before .args in
     let text = a .text .now in
     let table = a .table .now in
     let ls = tableLines text table (a .count) in
     let l = c .before .before .loop in
     let told = c .enum-told in
-    mapped-end ls (a .first) (a .indent) (a .levels) (a .out .now) (a .at) (l .out) (l .i) (l .p) (l .inv .0) (found-nothing (keyHere (a .indent) (drop (l .i) ls)) (sym (told .given .1) ∙ l .inv .1))
+    mapped-end ls (a .first) (a .indent) (a .levels) (a .exact) (a .out .now) (a .at) (l .out) (l .i) (l .p) (l .inv .0) (found-nothing (keyHere (a .indent) (drop (l .i) ls)) (sym (told .given .1) ∙ l .inv .1))
 
 entry-add-to : (t : ℕ) → entry-lts.Need-add-to (entry-at-reads.Asked, entry-at-reads.Learnt, block-key-reads.Asked, block-key-reads.Learnt, entry-value-below t, entry-value.Post) (entry-at t) entry.Post
 entry-add-to t c =
@@ -617,7 +666,7 @@ inline-mapping-returns t c =
     let ls = tableLines text table (a .count) in
     let cap = length (a .out .now) in
     let if1 = c .if1 in
-    inline-full cap (within cap (a .levels)) (numberAt table (a .i)) (columnAt table (a .i) (a .from)) (textAt text table (a .i) (a .from)) (a .split) (a .at) (drop (a .i + 1) ls) (omega (arith, if1 .taken))
+    inline-full (a .out .now) (within cap (a .levels)) (numberAt table (a .i)) (columnAt table (a .i) (a .from)) (textAt text table (a .i) (a .from)) (a .split) (a .at) (drop (a .i + 1) ls) (omega (arith, if1 .taken))
 
 inline-mapping-entry-requires : (t : ℕ) → inline-mapping-lts.Need-entry-requires (entry-at-reads.Asked, entry-at-reads.Learnt, entry-below t, entry.Post, key-at-reads.Asked, key-at-reads.Learnt, entries-below t, entries.Post, has-key-reads.Asked, has-key-reads.Learnt, put-header-reads.Asked, put-header-reads.Learnt) (inline-mapping-at t) inline-mapping.Post
 inline-mapping-entry-requires t c κs =
@@ -693,7 +742,7 @@ inline-mapping-returns-2 t c =
     let w = entry-done _ _ ls (a .i + 1) (a .out .now) _ (a .at + 6) refl (entry′ .result) (entry′ .ensures) (next .given .0 .0) (next .given .0 .1 .0) (next .given .0 .1 .1 .0) (next .given .1) in
     let later = subst (λ (k : ℕ). AgreesBlock (entriesOf cap (within cap (a .levels)) k (next .given .0 .1 .1 .0) (drop (next .given .0 .0) ls)) ls (next .given .0 .0) (entry′ .last .1 .1 .1 .1 .1 .1 .1 .0) (entries′ .last .1 .1 .1 .1 .1 .1 .1 .0) (next .given .0 .1 .1 .0) (entries′ .result)) (column-is text table (a .count) (a .i) (pre .1 .1) (x .result) (x .ensures) (a .from)) (subst (λ (k : ℕ). AgreesBlock (entriesOf k (within k (a .levels)) (x .result .indent + (a .from - x .result .start)) (next .given .0 .1 .1 .0) (drop (next .given .0 .0) ls)) ls (next .given .0 .0) (entry′ .last .1 .1 .1 .1 .1 .1 .1 .0) (entries′ .last .1 .1 .1 .1 .1 .1 .1 .0) (next .given .0 .1 .1 .0) (entries′ .result)) (entry′ .kept .1 .1 .1 .1 .1 .1 .1 .0) (entries′ .ensures)) in
     let d = block-done _ ls (next .given .0 .0) (entry′ .last .1 .1 .1 .1 .1 .1 .1 .0) (entries′ .last .1 .1 .1 .1 .1 .1 .1 .0) (next .given .0 .1 .1 .0) (entries′ .result) later (n .given .0 .0) (n .given .0 .1 .0) (n .given .1) in
-    inline-twice (within cap (a .levels)) (numberAt table (a .i)) (columnAt table (a .i) (a .from)) (textAt text table (a .i) (a .from)) (a .split) (a .at) (drop (a .i + 1) ls) (a .out .now) (omega (arith, if1 .left, pre .1 .3)) ls (a .i + 1) _ (next .given .0 .0) (next .given .0 .1 .0) (next .given .0 .1 .1 .0) w _ (n .given .0 .0) (n .given .0 .1 .0) d (has-key′ .result) (has-key′ .ensures) (if2 .taken) ∙ ap (λ (k : ℕ). refused 18 k 0) (sym (x .ensures .number′))
+    inline-twice (within cap (a .levels)) (numberAt table (a .i)) (columnAt table (a .i) (a .from)) (textAt text table (a .i) (a .from)) (a .split) (a .at) (drop (a .i + 1) ls) (a .out .now) (omega (arith, if1 .left, pre .1 .3)) ls (a .i + 1) _ (next .given .0 .0) (next .given .0 .1 .0) (next .given .0 .1 .1 .0) w _ (n .given .0 .0) (n .given .0 .1 .0) d (has-key′ .result) (has-key′ .ensures) (if2 .taken) (x .result .number) (x .ensures .number′)
 
 inline-mapping-sub-put-header : (t : ℕ) → inline-mapping-lts.Need-sub-put-header (entry-at-reads.Asked, entry-at-reads.Learnt, entry-below t, entry.Post, key-at-reads.Asked, key-at-reads.Learnt, entries-below t, entries.Post, has-key-reads.Asked, has-key-reads.Learnt, put-header-reads.Asked, put-header-reads.Learnt) (inline-mapping-at t) inline-mapping.Post
 inline-mapping-sub-put-header t c =
@@ -920,7 +969,7 @@ mapping-returns t c =
     let ls = tableLines text table (a .count) in
     let cap = length (a .out .now) in
     let if1 = c .if1 in
-    map-full cap (within cap (a .levels)) (a .indent) (a .at) (drop (a .i) ls) (omega (arith, if1 .taken))
+    map-full (a .out .now) (within cap (a .levels)) (a .indent) (a .at) (drop (a .i) ls) (omega (arith, if1 .taken))
 
 mapping-entries-requires : (t : ℕ) → mapping-lts.Need-entries-requires (entries-below t, entries.Post, put-header-reads.Asked, put-header-reads.Learnt) (mapping-at t) mapping.Post
 mapping-entries-requires t c κs =
@@ -1003,7 +1052,7 @@ sequence-returns t c =
     let ls = tableLines text table (a .count) in
     let cap = length (a .out .now) in
     let if1 = c .if1 in
-    list-full cap (within cap (a .levels)) (a .indent) (a .at) (drop (a .first) ls) (omega (arith, if1 .taken))
+    list-full (a .out .now) (within cap (a .levels)) (a .indent) (a .at) (drop (a .first) ls) (omega (arith, if1 .taken))
 
 sequence-loop-holds : (t : ℕ) → sequence-lts.Need-loop-holds (goes-on-reads.Asked, goes-on-reads.Learnt, item-below t, item.Post, put-header-reads.Asked, put-header-reads.Learnt) (sequence-at t) sequence.Post sequence-Inv-loop sequence-μ-loop
 sequence-loop-holds t c =
@@ -1101,13 +1150,14 @@ sequence-returns-3 t c =
     let put-header′ = c .before .before .put-header in
     list-close ls (a .first) (a .indent) (a .levels) (a .out .now) (a .at) (l .out) (l .i) (l .p) (l .inv) (omega (arith, if1 .left, pre .1 .2)) (sym (goes-on′ .ensures) ∙ if2 .left) _ (put-header′ .ensures)
 
-pub +block+child+entries+entry+entry-value+inline-mapping+item+mapping+sequence-spec :
+pub +block+child+entries+entries-by+entry+entry-value+inline-mapping+item+mapping+sequence-spec :
     {M : Type 1} → statement M
-+block+child+entries+entry+entry-value+inline-mapping+item+mapping+sequence-spec =
++block+child+entries+entries-by+entry+entry-value+inline-mapping+item+mapping+sequence-spec =
     close
     μ-block
     μ-child
     μ-entries
+    μ-entries-by
     μ-entry
     μ-entry-value
     μ-inline-mapping
@@ -1176,37 +1226,52 @@ pub +block+child+entries+entry+entry-value+inline-mapping+item+mapping+sequence-
     (λ c. search needs)
     (child-returns-3 t))
     (λ t. entries-lts.spec (
+      entries-by-below t,
+      entries-by.Post,
+      repeats-reads.Asked,
+      repeats-reads.Learnt,
+    )
+    (entries-at t)
+    entries.Post
+    (entries-entries-by-requires t)
+    (entries-repeats-requires t)
+    (entries-entries-by-requires-2 t)
+    (λ c. search needs)
+    (entries-returns t)
+    (λ c. search needs)
+    (entries-returns-2 t))
+    (λ t. entries-by-lts.spec (
       entry-at-reads.Asked,
       entry-at-reads.Learnt,
       entry-below t,
       entry.Post,
-      has-key-reads.Asked,
-      has-key-reads.Learnt,
+      repeated-reads.Asked,
+      repeated-reads.Learnt,
       key-at-reads.Asked,
       key-at-reads.Learnt,
     )
-    (entries-at t)
-    entries.Post
-    entries-Inv-loop
-    entries-μ-loop
-    (entries-loop-holds t)
+    (entries-by-at t)
+    entries-by.Post
+    entries-by-Inv-loop
+    entries-by-μ-loop
+    (entries-by-loop-holds t)
     (λ c. search needs)
     (λ c. search needs)
-    (entries-entry-at-requires t)
-    (entries-entry-requires t)
+    (entries-by-entry-at-requires t)
+    (entries-by-entry-requires t)
     (λ c. search needs)
     (λ c. search needs)
-    (entries-returns t)
+    (entries-by-returns t)
     (λ c. search needs)
     (λ c. search needs)
-    (entries-has-key-requires t)
+    (entries-by-repeated-requires t)
     (λ c. search needs)
-    (entries-returns-2 t)
-    (entries-key-at-requires t)
-    (entries-loop-less t)
-    (entries-loop-again t)
+    (entries-by-returns-2 t)
+    (entries-by-key-at-requires t)
+    (entries-by-loop-less t)
+    (entries-by-loop-again t)
     (λ c. search needs)
-    (entries-returns-3 t))
+    (entries-by-returns-3 t))
     (λ t. entry-lts.spec (
       entry-at-reads.Asked,
       entry-at-reads.Learnt,
