@@ -17,7 +17,7 @@ use Rattle.item.specs.Encode.{item, encode}
 use Rattle.item.proofs.Exact.{and-left, and-right}
 use Rattle.item.proofs.Same.{same-refl, same-eq}
 use Rattle.entries.specs.Entries.{Stands, Lies, keyTwice}
-use Rattle.entries.specs.Contract.{hashFrom, hashOf, Has, twiceIn, ofClass}
+use Rattle.entries.specs.Contract.{hashFrom, hashOf, Has, twiceIn, ofClass, Judged}
 use Rattle.entries.proofs.Standing.{stands-left, stands-is, stands-at}
 use Rattle.entries.proofs.Walking.{Turn, no-more}
 
@@ -34,18 +34,18 @@ module _ (key : List ℕ) (h i : ℕ) where
 
 -- ---- tests
 
-no : (b : Bool) → (b ≡ true → ⊥) → b ≡ false
+pub no : (b : Bool) → (b ≡ true → ⊥) → b ≡ false
 no true h = absurd (h refl)
 no false h = refl
 
-either : (a b : Bool) → a || b ≡ true → (a ≡ true) ⊎ (b ≡ true)
+pub either : (a b : Bool) → a || b ≡ true → (a ≡ true) ⊎ (b ≡ true)
 either true b e = inl refl
 either false b e = inr e
 
-or-left : (a b : Bool) → a ≡ true → a || b ≡ true
+pub or-left : (a b : Bool) → a ≡ true → a || b ≡ true
 or-left a b e = rw e
 
-or-right : (a b : Bool) → b ≡ true → a || b ≡ true
+pub or-right : (a b : Bool) → b ≡ true → a || b ≡ true
 or-right true b e = refl
 or-right false b e = e
 
@@ -156,12 +156,6 @@ one-class es true e = sym (twice-whole (ofClass 0 0) es (sym e))
 one-class es false e = sym (no-class 0 es (λ c i. subst (λ (n : ℕ). twiceIn (ofClass n 0) es ≡ false) (let z : 0 ≡ c = omega arith in z) (sym e)))
 
 -- ---- each key searched for behind it
-
--- what is left decides as all of it does
-pub record Judged (s : List ℕ) (to at : ℕ) (es : Entries) : Type 0 where
-  pub rest : Entries
-  pub lies : Lies s at to rest
-  pub whole : keyTwice es ≡ keyTwice rest
 
 pub judged-none : {s : List ℕ} {from to : ℕ} (es : Entries) → Lies s from to es → Judged s to from es
 judged-none es h = record { rest = es; lies = h; whole = refl }
