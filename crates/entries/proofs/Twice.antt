@@ -151,10 +151,6 @@ class-done class last es h e n i = go (eqb n class) refl
     go true q = subst (λ (m : ℕ). twiceIn (ofClass m last) es ≡ false) (sym (eqb-true n class q)) e
     go false q = let u : n ≡ class → ⊥ = eqb-false n class q in h n (omega (arith, u))
 
-pub one-class : (es : Entries) (r : Bool) → r ≡ twiceIn (ofClass 0 0) es → r ≡ keyTwice es
-one-class es true e = sym (twice-whole (ofClass 0 0) es (sym e))
-one-class es false e = sym (no-class 0 es (λ c i. subst (λ (n : ℕ). twiceIn (ofClass n 0) es ≡ false) (let z : 0 ≡ c = omega arith in z) (sym e)))
-
 -- ---- each key searched for behind it
 
 pub judged-none : {s : List ℕ} {from to : ℕ} (es : Entries) → Lies s from to es → Judged s to from es
@@ -208,15 +204,15 @@ passed-none {s} {from} es h = record {
 }
 
 module _ {s : List ℕ} {from to : ℕ} {p : List ℕ → Bool} {es : Entries} {at : ℕ} {seen : List ℕ} (w : Passed s from to p es at seen) where
-  pub passed-all : to ≤ at → false ≡ twiceIn p es
-  passed-all h = sym (ap (twiceIn p) (w .whole ∙ ap (join (w .front)) (no-more (w .rest) h (w .behind)) ∙ join-done (w .front)) ∙ w .fresh)
+  pub passed-all : to ≤ at → twiceIn p es ≡ false
+  passed-all h = ap (twiceIn p) (w .whole ∙ ap (join (w .front)) (no-more (w .rest) h (w .behind)) ∙ join-done (w .front)) ∙ w .fresh
 
   module _ {start stop kind next : ℕ} (t : Turn s at to (w .rest) start stop kind next) where
     abbrev key : List ℕ
     key = t .entry .k
 
-    pub passed-again : p key ≡ true → hasKey key (w .front) ≡ true → true ≡ twiceIn p es
-    passed-again e h = sym (ap (twiceIn p) (w .whole ∙ ap (join (w .front)) (t .entry .is)) ∙ twice-join p (w .front) key (t .entry .v) (t .entry .others) e h)
+    pub passed-again : p key ≡ true → hasKey key (w .front) ≡ true → twiceIn p es ≡ true
+    passed-again e h = ap (twiceIn p) (w .whole ∙ ap (join (w .front)) (t .entry .is)) ∙ twice-join p (w .front) key (t .entry .v) (t .entry .others) e h
 
     lies-add : Lies s from next (add (w .front) key (t .entry .v))
     unfolding encode

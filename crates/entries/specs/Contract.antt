@@ -9,6 +9,8 @@ use lib.Dec.{eqb}
 use lib.ListN.{length, take, drop, getD}
 use Rattle.item.specs.Tree.{Entries, done, pair, hasKey}
 use Rattle.entries.specs.Entries.{Lies, keyTwice}
+use Rattle.entries.specs.declared.filter.Filtered.{Filtered}
+use Rattle.entries.specs.declared.filter.Filtered.the-variants as filtered
 use Rattle.entries.specs.declared.sorted.Order.{Order}
 use Rattle.entries.specs.declared.sorted.Order.the-variants as order
 use Rattle.entries.specs.declared.sorted.Place.{Place}
@@ -50,6 +52,12 @@ twiceIn p (pair k v es) = (p k && hasKey k es) || twiceIn p es
 -- the class of a key
 unfoldable pub ofClass : ℕ → ℕ → List ℕ → Bool
 ofClass class last k = eqb (bitAnd (hashOf k / 2 ^ 28) last) class
+
+-- what a filter tells of it
+abbrev pub Tells : Bool → Filtered → Type 0
+Tells twice filtered.Twice = twice ≡ true
+Tells twice filtered.Once = twice ≡ false
+Tells twice filtered.Crowded = Unit {0}
 
 -- ---- keys in their order
 

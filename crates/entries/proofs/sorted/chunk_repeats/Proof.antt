@@ -144,7 +144,7 @@ loop-less : tie.Need-loop-less Inv-loop μ-loop
 loop-less c = let k = here (c .before .before .before .before .before .before .before .before .before) in omega (arith, k .first, k .key, k .value, c .before .before .before .before .before .before .before .before .before .before .before .before .before .loop-test .taken)
 
 loop-again : tie.Need-loop-again Inv-loop μ-loop
-loop-again c = 
+loop-again c =
     let m = c .before .before .before in
     let k = head m in
     let i = here k in (
@@ -159,7 +159,7 @@ loop-less-2 : tie.Need-loop-less-2 Inv-loop μ-loop
 loop-less-2 c = let k = here (c .before .before .before .before .before .before .before) in omega (arith, k .first, k .key, k .value, c .before .before .before .before .before .before .before .before .before .before .before .loop-test .taken)
 
 loop-again-2 : tie.Need-loop-again-2 Inv-loop μ-loop
-loop-again-2 c = 
+loop-again-2 c =
     let m = c .before in
     let k = head m in
     let i = here k in
@@ -172,7 +172,7 @@ loop-again-2 c =
     )
 
 returns-3 : tie.Need-returns-3 Inv-loop μ-loop
-returns-3 c = 
+returns-3 c =
     let l = c .before .loop .inv in (
       (l .3 .size, ⊎-elim (λ e. omega (arith, c .before .before .before .pre, l .1)) (λ e. omega (arith, l .0)) (l .2)),
       λ es h. chunked-all (l .4 es h) (search needs),
