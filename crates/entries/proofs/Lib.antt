@@ -4,3 +4,6 @@ pub mod Walking
 pub mod Counting
 pub mod Bits
 pub mod Twice
+pub mod Order
+pub mod Runs
+pub mod Chunks

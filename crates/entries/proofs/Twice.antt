@@ -17,7 +17,7 @@ use Rattle.item.specs.Encode.{item, encode}
 use Rattle.item.proofs.Exact.{and-left, and-right}
 use Rattle.item.proofs.Same.{same-refl, same-eq}
 use Rattle.entries.specs.Entries.{Stands, Lies, keyTwice}
-use Rattle.entries.specs.Contract.{hashFrom, hashOf, Has, twiceIn, ofClass}
+use Rattle.entries.specs.Contract.{hashFrom, hashOf, Has, twiceIn, ofClass, Judged}
 use Rattle.entries.proofs.Standing.{stands-left, stands-is, stands-at}
 use Rattle.entries.proofs.Walking.{Turn, no-more}
 
@@ -34,18 +34,18 @@ module _ (key : List ℕ) (h i : ℕ) where
 
 -- ---- tests
 
-no : (b : Bool) → (b ≡ true → ⊥) → b ≡ false
+pub no : (b : Bool) → (b ≡ true → ⊥) → b ≡ false
 no true h = absurd (h refl)
 no false h = refl
 
-either : (a b : Bool) → a || b ≡ true → (a ≡ true) ⊎ (b ≡ true)
+pub either : (a b : Bool) → a || b ≡ true → (a ≡ true) ⊎ (b ≡ true)
 either true b e = inl refl
 either false b e = inr e
 
-or-left : (a b : Bool) → a ≡ true → a || b ≡ true
+pub or-left : (a b : Bool) → a ≡ true → a || b ≡ true
 or-left a b e = rw e
 
-or-right : (a b : Bool) → b ≡ true → a || b ≡ true
+pub or-right : (a b : Bool) → b ≡ true → a || b ≡ true
 or-right true b e = refl
 or-right false b e = e
 
@@ -151,17 +151,7 @@ class-done class last es h e n i = go (eqb n class) refl
     go true q = subst (λ (m : ℕ). twiceIn (ofClass m last) es ≡ false) (sym (eqb-true n class q)) e
     go false q = let u : n ≡ class → ⊥ = eqb-false n class q in h n (omega (arith, u))
 
-pub one-class : (es : Entries) (r : Bool) → r ≡ twiceIn (ofClass 0 0) es → r ≡ keyTwice es
-one-class es true e = sym (twice-whole (ofClass 0 0) es (sym e))
-one-class es false e = sym (no-class 0 es (λ c i. subst (λ (n : ℕ). twiceIn (ofClass n 0) es ≡ false) (let z : 0 ≡ c = omega arith in z) (sym e)))
-
 -- ---- each key searched for behind it
-
--- what is left decides as all of it does
-pub record Judged (s : List ℕ) (to at : ℕ) (es : Entries) : Type 0 where
-  pub rest : Entries
-  pub lies : Lies s at to rest
-  pub whole : keyTwice es ≡ keyTwice rest
 
 pub judged-none : {s : List ℕ} {from to : ℕ} (es : Entries) → Lies s from to es → Judged s to from es
 judged-none es h = record { rest = es; lies = h; whole = refl }
@@ -214,15 +204,15 @@ passed-none {s} {from} es h = record {
 }
 
 module _ {s : List ℕ} {from to : ℕ} {p : List ℕ → Bool} {es : Entries} {at : ℕ} {seen : List ℕ} (w : Passed s from to p es at seen) where
-  pub passed-all : to ≤ at → false ≡ twiceIn p es
-  passed-all h = sym (ap (twiceIn p) (w .whole ∙ ap (join (w .front)) (no-more (w .rest) h (w .behind)) ∙ join-done (w .front)) ∙ w .fresh)
+  pub passed-all : to ≤ at → twiceIn p es ≡ false
+  passed-all h = ap (twiceIn p) (w .whole ∙ ap (join (w .front)) (no-more (w .rest) h (w .behind)) ∙ join-done (w .front)) ∙ w .fresh
 
   module _ {start stop kind next : ℕ} (t : Turn s at to (w .rest) start stop kind next) where
     abbrev key : List ℕ
     key = t .entry .k
 
-    pub passed-again : p key ≡ true → hasKey key (w .front) ≡ true → true ≡ twiceIn p es
-    passed-again e h = sym (ap (twiceIn p) (w .whole ∙ ap (join (w .front)) (t .entry .is)) ∙ twice-join p (w .front) key (t .entry .v) (t .entry .others) e h)
+    pub passed-again : p key ≡ true → hasKey key (w .front) ≡ true → twiceIn p es ≡ true
+    passed-again e h = ap (twiceIn p) (w .whole ∙ ap (join (w .front)) (t .entry .is)) ∙ twice-join p (w .front) key (t .entry .v) (t .entry .others) e h
 
     lies-add : Lies s from next (add (w .front) key (t .entry .v))
     unfolding encode

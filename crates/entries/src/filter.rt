@@ -1,18 +1,26 @@
 // Whether a key stands twice among entries. Bits of the keys that were passed tell most keys to be new; where all bits of a key are there
-// already, the exact search decides. So the time grows with the bytes and not with their square, unless keys were made to share their bits.
+// already, the exact search decides. Where too many keys share their bits, as keys can be made to, the keys are put in order instead.
 ghost use mathlib.Core.Path.{_≡_};
 ghost use Prim.Native.Nat.{_≤_, _<_, _^_};
 ghost use lib.ListN.{length};
 ghost use Rattle.item.specs.Tree.{Entries};
 ghost use Rattle.entries.specs.Entries.{Lies, keyTwice};
-ghost use Rattle.entries.specs.Contract.{hashOf, bitsOf, Marked, twiceIn, ofClass};
+ghost use Rattle.entries.specs.Contract.{hashOf, bitsOf, Marked, twiceIn, ofClass, Tells};
 use crate::Pair;
 use crate::Span;
 use crate::has_key;
 use crate::nth_item;
 use crate::pair_at;
 use crate::search;
+use crate::sorted::sorted_repeats;
 use item::Found;
+
+// Whether a key stands twice, as far as bits and a few searches tell.
+enum Filtered {
+    Twice,
+    Once,
+    Crowded,
+}
 
 // A byte as a wider number; the caller owes nothing for the cast.
 fn wide(b: u8) -> usize
@@ -35,17 +43,17 @@ fn hash(key: &[u8]) -> usize
 }
 
 // Up to three bits of a word.
-fn bits_of(h: usize) -> u64
+fn bits_of(h: usize) -> usize
     ensures { λ r. ⌜ r ≡ bitsOf h ⌝ }
 {
-    let a: u64 = 1 << (h / 2048 % 64);
-    let b: u64 = 1 << (h / 131072 % 64);
-    let c: u64 = 1 << (h / 8388608 % 64);
+    let a: usize = 1 << (h / 2048 % 64);
+    let b: usize = 1 << (h / 131072 % 64);
+    let c: usize = 1 << (h / 8388608 % 64);
     a | b | c
 }
 
 // Whether the bits of a hash were there; now they are.
-fn mark(seen: &mut [u64; 2048], h: usize) -> bool
+fn mark(seen: &mut [usize; 2048], h: usize) -> bool
     requires { ⌜ length (now seen) ≡ 2 ^ 11 ⌝ }
     ensures { λ r. ⌜ Marked (now (seen .entry)) (now (seen .exit)) h r ⌝ }
 {
@@ -56,13 +64,33 @@ fn mark(seen: &mut [u64; 2048], h: usize) -> bool
     old & bits == bits
 }
 
-// Whether a key of one class stands twice; the classes are the numbers up to `last`. The bits stand in this frame alone, which is gone
-// before another mapping is read: depth costs none.
-fn class_repeats(s: &[u8], from: usize, to: usize, class: usize, last: usize) -> bool
-    requires { ⌜ (from ≤ to) × (to ≤ length (now s)) × (length (now s) ≤ 2 ^ 20) ⌝ }
-    ensures { λ r. ⌜ ((es : Entries) → Lies (now (s .entry)) from to es → r ≡ twiceIn (ofClass class last) es) ⌝ }
+fn clear(words: &mut [usize; 2048])
+    requires { ⌜ length (now words) ≡ 2 ^ 11 ⌝ }
+    ensures { λ _. ⌜ length (now (words .exit)) ≡ 2 ^ 11 ⌝ }
 {
-    let mut seen = [0u64; 2048];
+    let mut i = 0;
+    while i < 2048 {
+        words[i] = 0;
+        i += 1;
+    }
+}
+
+// Whether a key of one class stands twice; the classes are the numbers up to `last`. Each search that finds nothing costs a walk: there
+// are at most sixteen.
+fn class_repeats(
+    s: &[u8],
+    from: usize,
+    to: usize,
+    class: usize,
+    last: usize,
+    seen: &mut [usize; 2048],
+) -> Filtered
+    requires { ⌜ (from ≤ to) × (to ≤ length (now s)) × (length (now s) ≤ 2 ^ 20) × (length (now seen) ≡ 2 ^ 11) ⌝ }
+    ensures { λ _. ⌜ length (now (seen .exit)) ≡ 2 ^ 11 ⌝ }
+    ensures { λ r. ⌜ ((es : Entries) → Lies (now (s .entry)) from to es → Tells (twiceIn (ofClass class last) es) r) ⌝ }
+{
+    clear(seen);
+    let mut spare: usize = 16;
     let mut at = from;
     while at < to {
         let pair = pair_at(s, at);
@@ -73,34 +101,46 @@ fn class_repeats(s: &[u8], from: usize, to: usize, class: usize, last: usize) ->
             next,
         } = pair
         else {
-            return false;
+            return Filtered::Once;
         };
         let h = hash(&s[start..end]);
         if (h / 268435456) & last == class {
-            if mark(&mut seen, h) {
+            if mark(seen, h) {
                 if has_key(s, from, at, start, end) {
-                    return true;
+                    return Filtered::Twice;
                 }
+                if spare == 0 {
+                    return Filtered::Crowded;
+                }
+                spare -= 1;
             }
         }
         at = next;
     }
-    false
+    Filtered::Once
 }
 
-// Sixteen classes, one after the other, lest the bits of one be crowded: three bits each of 8,192 keys fill a fifth.
-fn many_repeat(s: &[u8], from: usize, to: usize) -> bool
-    requires { ⌜ (from ≤ to) × (to ≤ length (now s)) × (length (now s) ≤ 2 ^ 20) ⌝ }
-    ensures { λ r. ⌜ ((es : Entries) → Lies (now (s .entry)) from to es → r ≡ keyTwice es) ⌝ }
+// The classes one after the other.
+fn filter_repeats(
+    s: &[u8],
+    from: usize,
+    to: usize,
+    last: usize,
+    seen: &mut [usize; 2048],
+) -> Filtered
+    requires { ⌜ (from ≤ to) × (to ≤ length (now s)) × (length (now s) ≤ 2 ^ 20) × (last < 2 ^ 4) × (length (now seen) ≡ 2 ^ 11) ⌝ }
+    ensures { λ _. ⌜ length (now (seen .exit)) ≡ 2 ^ 11 ⌝ }
+    ensures { λ r. ⌜ ((es : Entries) → Lies (now (s .entry)) from to es → Tells (keyTwice es) r) ⌝ }
 {
     let mut class = 0;
-    while class < 16 {
-        if class_repeats(s, from, to, class, 15) {
-            return true;
+    while class <= last {
+        match class_repeats(s, from, to, class, last, seen) {
+            Filtered::Twice => return Filtered::Twice,
+            Filtered::Once => class += 1,
+            Filtered::Crowded => return Filtered::Crowded,
         }
-        class += 1;
     }
-    false
+    Filtered::Once
 }
 
 // Each key is searched for among those behind it.
@@ -138,6 +178,36 @@ fn has_more(s: &[u8], from: usize, to: usize, items: usize) -> bool {
     start < to
 }
 
+// As many classes as keep the bits of one from being crowded: three bits each of 4,369 keys fill a tenth.
+fn last_class(s: &[u8], from: usize, to: usize) -> usize
+    ensures { λ r. ⌜ r < 2 ^ 4 ⌝ }
+{
+    if !has_more(s, from, to, 8192) {
+        return 0;
+    }
+    if !has_more(s, from, to, 16384) {
+        return 1;
+    }
+    if !has_more(s, from, to, 65536) {
+        return 7;
+    }
+    15
+}
+
+// The words stand in this frame alone, which is gone before another mapping is read: depth costs none.
+fn many_repeat(s: &[u8], from: usize, to: usize) -> bool
+    requires { ⌜ (from ≤ to) × (to ≤ length (now s)) × (length (now s) ≤ 2 ^ 20) ⌝ }
+    ensures { λ r. ⌜ ((es : Entries) → Lies (now (s .entry)) from to es → r ≡ keyTwice es) ⌝ }
+{
+    let last = last_class(s, from, to);
+    let mut words = [0usize; 2048];
+    match filter_repeats(s, from, to, last, &mut words) {
+        Filtered::Twice => true,
+        Filtered::Once => false,
+        Filtered::Crowded => sorted_repeats(s, from, to, &mut words),
+    }
+}
+
 // Whether a key stands twice among the entries from `from` to `to`. Few are quickest compared with each other, and clearing the bits pays
 // from some 24 entries on.
 pub fn repeats(s: &[u8], from: usize, to: usize) -> bool
@@ -149,9 +219,6 @@ pub fn repeats(s: &[u8], from: usize, to: usize) -> bool
     }
     if !has_more(s, from, to, 48) {
         return few_repeat(s, from, to);
-    }
-    if !has_more(s, from, to, 16384) {
-        return class_repeats(s, from, to, 0, 0);
     }
     many_repeat(s, from, to)
 }

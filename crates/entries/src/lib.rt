@@ -9,6 +9,7 @@ ghost use Rattle.item.specs.Places.{headerAt};
 ghost use Rattle.entries.specs.Entries.{Lies, Holds, PairPlaces, Paired, placeOf, Seeks, Finds, FoundInside, spanAt, nthItem};
 
 mod filter;
+mod sorted;
 
 pub use filter::repeats;
 use item::Found;

@@ -18,36 +18,37 @@ use Rattle.entries.proofs.filter.class_repeats.Statement.{statement}
 use Rattle.entries.proofs.filter.class_repeats.Tie as tie
 
 abbrev Inv-loop : tie.InvT-loop
-Inv-loop s from to class last seen₀ at₀ seen at = (from ≤ at) × (length seen ≡ 2048) × ((es : Entries) → Lies s from to es → Passed s from to (ofClass class last) es at seen)
+Inv-loop s from to class last seen₀ spare₀ at₀ seen spare at = (from ≤ at) × (length seen ≡ 2048) × ((es : Entries) → Lies s from to es → Passed s from to (ofClass class last) es at seen)
 
 abbrev μ-loop : tie.MeasureT-loop
-μ-loop s from to class last seen₀ at₀ seen at = to - at
+μ-loop s from to class last seen₀ spare₀ at₀ seen spare at = to - at
 
 loop-holds : tie.Need-loop-holds Inv-loop μ-loop
-loop-holds c = (omega arith, search needs, λ es h. passed-none es h)
+loop-holds c = (omega arith, c .clear .ensures, λ es h. passed-none es h)
 
 returns : tie.Need-returns Inv-loop μ-loop
-returns c = λ es h.
-    let w = c .before .before .before .before .loop .inv .2 es h in
-    no-entry (w .rest) (search needs) (search needs) (c .before .before .pair-at .ensures .1) (c .enum-told .given .1) (w .behind)
+returns c = (
+  c .before .before .before .before .loop .inv .1,
+  λ es h. let w = c .before .before .before .before .loop .inv .2 es h in no-entry (w .rest) (search needs) (search needs) (c .before .before .pair-at .ensures .1) (c .enum-told .given .1) (w .behind),
+)
 
 -- ---- an entry
 
 module _ (c : tie.After-known-told Inv-loop μ-loop) where
   abbrev s : List ℕ
-  s = c .before .before .before .before .before .before .before .args .s .now
+  s = c .before .before .before .before .before .before .before .before .before .args .s .now
 
   abbrev from : ℕ
-  from = c .before .before .before .before .before .before .before .args .from
+  from = c .before .before .before .before .before .before .before .before .before .args .from
 
   abbrev to : ℕ
-  to = c .before .before .before .before .before .before .before .args .to
+  to = c .before .before .before .before .before .before .before .before .before .args .to
 
   abbrev class : ℕ
-  class = c .before .before .before .before .before .before .before .args .class
+  class = c .before .before .before .before .before .before .before .before .before .args .class
 
   abbrev last : ℕ
-  last = c .before .before .before .before .before .before .before .args .last
+  last = c .before .before .before .before .before .before .before .before .before .args .last
 
   abbrev at : ℕ
   at = c .before .before .before .before .before .loop .at
@@ -130,27 +131,32 @@ loop-again-2 c =
 
 loop-again : tie.Need-loop-again Inv-loop μ-loop
 loop-again c =
-    let m = c .before .before .before in
+    let m = c .before .before .before .before in
     let k = head m in (
       omega (arith, here k .first, here k .key, here k .value),
       kept-length m,
-      λ es h. on m es h (λ _ f. false≢true (sym (c .if3 .left) ∙ sought m es h (c .before .has-key .ensures) ∙ f)),
+      λ es h. on m es h (λ _ f. false≢true (sym (c .before .if3 .left) ∙ sought m es h (c .before .before .has-key .ensures) ∙ f)),
     )
 
 returns-2 : tie.Need-returns-2 Inv-loop μ-loop
-returns-2 c = λ es h.
+returns-2 c =
     let m = c .before .before .before in
-    let k = head m in
-    passed-again (passed k es h) (turned k es h)
-    (class-of (class k) (last k) (key k es h) (ap (λ (x : ℕ). bitAnd (x / 2 ^ 28) (last k)) (sym (hashed (m .before .before .before) es h)) ∙ m .before .before .if1 .taken))
-    (sym (sought m es h (c .before .has-key .ensures)) ∙ c .if3 .taken)
+    let k = head m in (
+      kept-length m,
+      λ es h. passed-again (passed k es h) (turned k es h)
+          (class-of (class k) (last k) (key k es h) (ap (λ (x : ℕ). bitAnd (x / 2 ^ 28) (last k)) (sym (hashed (m .before .before .before) es h)) ∙ m .before .before .if1 .taken))
+          (sym (sought m es h (c .before .has-key .ensures)) ∙ c .if3 .taken),
+    )
 
 returns-3 : tie.Need-returns-3 Inv-loop μ-loop
-returns-3 c = λ es h. passed-all (c .before .loop .inv .2 es h) (search needs)
+returns-3 c = (kept-length (c .before .before .before .before), λ es h. tt)
+
+returns-4 : tie.Need-returns-4 Inv-loop μ-loop
+returns-4 c = let l = c .before .loop .inv in (l .1, λ es h. passed-all (l .2 es h) (search needs))
 
 pub class-repeats-spec : {M : Type 1} → statement M
 class-repeats-spec =
-    tie.close (tie.spec Inv-loop μ-loop loop-holds (λ c κs. search needs) (λ c. search needs) (λ c. search needs) returns
+    tie.close (tie.spec Inv-loop μ-loop (λ c κs. search needs) loop-holds (λ c κs. search needs) (λ c. search needs) (λ c. search needs) returns
     (λ c. here c .key)
     (λ c. here c .key)
     (λ c. omega (arith, here c .value, here c .inside))
@@ -158,10 +164,12 @@ class-repeats-spec =
     (λ c κs. c .before .before .before .before .before .before .before .before .before .loop .inv .1)
     (λ c κs. let k = head (c .before) in let i = here k in let w = k .before .before .before .before .before .loop .inv .0 in search needs)
     returns-2
-    (λ c. let k = head (c .before .before .before) in omega (arith, here k .first, here k .key, here k .value, k .before .before .before .before .loop-test .taken))
+    returns-3
+    (λ c. search needs)
+    (λ c. let k = head (c .before .before .before .before) in omega (arith, here k .first, here k .key, here k .value, k .before .before .before .before .loop-test .taken))
     loop-again
     (λ c. let k = head (c .before) in omega (arith, here k .first, here k .key, here k .value, k .before .before .before .before .loop-test .taken))
     loop-again-2
     (λ c. let k = c .before .before .before in omega (arith, here k .first, here k .key, here k .value, k .before .before .before .before .loop-test .taken))
     loop-again-3
-    returns-3)
+    returns-4)

@@ -7,8 +7,9 @@ use mathlib.Core.List.{List}
 use Rattle.item.specs.Tree.{Entries, get}
 use Rattle.item.specs.declared.Found.{Found}
 use Rattle.entries.specs.Entries.{Lies, Places, Seeks}
+use Rattle.entries.specs.Contract.{Judged}
 use Rattle.entries.proofs.Walking.{places-of, Turn, turn, no-entry, key-there, key-missing}
-use Rattle.entries.proofs.Twice.{Judged, judged-none, judged-all, judged-again, judged-on}
+use Rattle.entries.proofs.Twice.{judged-none, judged-all, judged-again, judged-on}
 use Rattle.entries.proofs.filter.few_repeat.Statement.{statement}
 use Rattle.entries.proofs.filter.few_repeat.Tie as tie
 
