@@ -1,13 +1,12 @@
 -- From what the jobs promise to what the demands say. Assumes nothing.
 use mathlib.Core.Path.{_≡_, refl, sym, ap, _∙_, subst}
-use Prim.Native.Nat.{ℕ, zero, suc, _≤_, _<_}
-use native.Mathlib.Omega.{arith}
-use mathlib.Core.List.{List, [], map}
+use Prim.Native.Nat.{ℕ, _≤_, _<_}
+use mathlib.Core.List.{List, []}
 use mathlib.Core.Bool.{Bool, true, false, false≢true, _&&_}
 use mathlib.Core.Logic.{inl, inr}
 use lib.Dec.{leb}
-use lib.ListN.{length, take, drop, getD, List·getD-eq-default}
-use borrow.Author.Tests.{eq-eqb, leb-true, leb-false, le-leb, lt-leb}
+use lib.ListN.{length, take, drop}
+use borrow.Author.Tests.{eq-eqb, le-leb, lt-leb}
 use Rattle.refusal.specs.Base.{Answer, good, refused, same, if_then_else_}
 use Rattle.refusal.specs.Told.{told, toldOf}
 use Rattle.refusal.specs.declared.Told.{Told}
@@ -20,12 +19,8 @@ use Rattle.tree.specs.declared.TreeAnswer.{TreeAnswer}
 use Rattle.tree.specs.declared.TreeAnswer.the-variants.{Read as TreeRead, Refused as TreeRefused}
 use Rattle.tree.proofs.ReadTree as ReadTree
 use Rattle.meaning.specs.Meaning.{Meaning}
-use Rattle.meaning.specs.Record.{stepItem, fields}
 use Rattle.meaning.specs.Rules.{IsRecord}
-use Rattle.record.specs.Jobs.{Found, field, step, partOf}
-use Rattle.record.specs.Theorems.{Gives, shown}
-use Rattle.record.proofs.Lookups.{length-steps}
-use Rattle.record.proofs.Theorems.{field-back, step-back}
+use Rattle.record.specs.Jobs.{Found, partOf}
 use Rattle.scenario.specs.Scenario.{Reading, scenarioOf}
 use Rattle.scenario.specs.Told.{textMeaning, ScenarioTold, ScenarioLeft, ScenarioEnds}
 use Rattle.scenario.specs.declared.ScenarioAnswer.{ScenarioAnswer}
@@ -34,8 +29,7 @@ use Rattle.scenario.proofs.Demand.{accepted-record}
 use Rattle.scenario.proofs.Lent.{Lacks, accepted-reading, refused-itself}
 use Rattle.scenario.proofs.ReadScenario.{Promised, ends, told-check, same-bytes-same-meaning, same-meaning-same-bytes}
 use Rattle.demands.specs.declared.Compared.the-variants.{Same, Different}
-use Rattle.demands.specs.Demands.{TreeLeft, TreeEnds, lacks, TellsRefusal, Accepted, Compares, goodWith, isGood, nth, stepItems, FieldShown, StepShown, TextItem}
-use Rattle.demands.proofs.Records.{good-record}
+use Rattle.demands.specs.Demands.{TreeLeft, TreeEnds, lacks, TellsRefusal, Accepted, Compares, goodWith, isGood, nth, ItemShown, TextItem}
 
 -- ---- a tree
 
@@ -129,56 +123,18 @@ module _ {text work tree room bytes places lines : List ℕ} {t b l n : ℕ} (g 
           (sym (refused-itself (length work′) (length room′) (length places′) text _ _ _ (w .is) (λ k. false≢true (sym q ∙ lacking _ k)))
           ∙ accepted-reading (length work) (length room) (length places) text (g .read) (g .is))
 
--- ---- lookups
+-- ---- what is found in the record of a text
 
-shows : {b : List ℕ} {a : Answer Found} {p : List ℕ} → Gives b a p → shown b a ≡ p
-unfolding shown
-shows {b} g = ap (shown b) (g .is) ∙ g .bytes
-
-module _ (b : List ℕ) (m : Meaning) (w : IsRecord b m) where
-  place-item : (place : ℕ) → shown b (field b place) ≡ nth (fields m) place
-  unfolding nth shown fields
-  place-item zero = ap (shown b) (good-record b m w .no-place)
-  place-item (suc i) = go (leb 8 i) refl
-    where
-      go : (t : Bool) → leb 8 i ≡ t → shown b (field b (suc i)) ≡ getD (fields m) i []
-      go true e = ap (shown b) (good-record b m w .places-end i (leb-true 8 i e)) ∙ sym (List·getD-eq-default (fields m) [] (leb-true 8 i e))
-      go false e = shows (field-back b m w i (leb-false 8 i e))
-
-  number-item : (number : ℕ) → shown b (step b number) ≡ nth (map stepItem (m .steps)) number
-  unfolding nth shown
-  number-item zero = ap (shown b) (good-record b m w .no-number)
-  number-item (suc i) = go (leb (length (m .steps)) i) refl
-    where
-      go : (t : Bool) → leb (length (m .steps)) i ≡ t → shown b (step b (suc i)) ≡ getD (map stepItem (m .steps)) i []
-      go true e =
-          ap (shown b) (good-record b m w .numbers-end i (leb-true _ i e))
-          ∙ sym (List·getD-eq-default (map stepItem (m .steps)) [] (omega (arith, length-steps (m .steps), leb-true _ i e)))
-      go false e = shows (step-back b m w i (leb-false _ i e))
-
-module _ (b found : List ℕ) where
-  pub field-shown : (place : ℕ) → found ≡ shown b (field b place) → FieldShown b place found
-  field-shown place e = record { is = e; item = λ m w. e ∙ place-item b m w place }
-
-  pub step-shown : (number : ℕ) → found ≡ shown b (step b number) → StepShown b number found
-  step-shown number e = record { is = e; item = λ m w. e ∙ number-item b m w number }
-
--- in the record of a text
-module _ {text work tree room bytes places lines : List ℕ} {t b l n : ℕ} (g : ScenarioTold text work tree room bytes places lines t b l n) where
-  its-record : IsRecord (take b bytes) (g .read .meaning)
-  its-record = rw (g .record-is) (accepted-record (length work) (length room) (length places) text (g .read) (g .is))
-
-  own : {items : Meaning → List (List ℕ)} (number : ℕ) (found : List ℕ) → found ≡ nth (items (g .read .meaning)) number → TextItem items (scenarioOf work room places text) text number found
-  own {items} number found e = record {
-    item = λ m _ q. e ∙ ap (λ (k : Meaning). nth (items k) number) (good-inj _ _ (sym (g .meaning-is) ∙ q));
-    nothing = λ no. absurd (no (g .read, g .is));
-  }
-
-  pub text-field : (place : ℕ) (found : List ℕ) → FieldShown (take b bytes) place found → TextItem fields (scenarioOf work room places text) text place found
-  text-field place found f = own {items = fields} place found (f .item (g .read .meaning) its-record)
-
-  pub text-step : (number : ℕ) (found : List ℕ) → StepShown (take b bytes) number found → TextItem stepItems (scenarioOf work room places text) text number found
-  text-step number found f = own {items = stepItems} number found (f .item (g .read .meaning) its-record)
+pub text-item : {text work tree room bytes places lines : List ℕ} {t b l n : ℕ} → ScenarioTold text work tree room bytes places lines t b l n
+    → {lookup : List ℕ → ℕ → Answer Found} {items : Meaning → List (List ℕ)} {number : ℕ} {found : List ℕ} → ItemShown lookup items (take b bytes) number found
+    → TextItem items (scenarioOf work room places text) text number found
+text-item {text} {work} {room = room} {bytes = bytes} {places = places} {b = b} g {items = items} {number = number} f = record {
+  item = λ m _ q. f .item (g .read .meaning) its-record ∙ ap (λ (k : Meaning). nth (items k) number) (good-inj _ _ (sym (g .meaning-is) ∙ q));
+  nothing = λ no. absurd (no (g .read, g .is));
+}
+  where
+    its-record : IsRecord (take b bytes) (g .read .meaning)
+    its-record = rw (g .record-is) (accepted-record (length work) (length room) (length places) text (g .read) (g .is))
 
 pub text-nothing : {text work tree room bytes places lines : List ℕ} {e : Refusal} → ScenarioLeft text work tree room bytes places lines e → (items : Meaning → List (List ℕ)) (number : ℕ) (found : List ℕ)
     → found ≡ [] → TextItem items (scenarioOf work room places text) text number found

@@ -1,5 +1,4 @@
 pub mod Calls
-pub mod Counted
 pub mod Filling
-pub mod Named
+pub mod Lookups
 pub mod Records

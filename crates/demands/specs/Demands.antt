@@ -17,9 +17,9 @@ use Rattle.tree.specs.Tree.{tree}
 use Rattle.tree.specs.declared.TreeAnswer.{TreeAnswer}
 use Rattle.tree.specs.declared.TreeAnswer.the-variants.{Read as TreeRead, Refused as TreeRefused}
 use Rattle.meaning.specs.Meaning.{Meaning}
-use Rattle.meaning.specs.Record.{stepItem, fields}
+use Rattle.meaning.specs.Record.{stepItem}
 use Rattle.meaning.specs.Rules.{IsRecord}
-use Rattle.record.specs.Jobs.{Found, checkRecord, field, step}
+use Rattle.record.specs.Jobs.{Found, checkRecord}
 use Rattle.record.specs.Theorems.{shown}
 use Rattle.scenario.specs.Scenario.{Reading}
 use Rattle.scenario.specs.Told.{textMeaning}
@@ -89,15 +89,10 @@ nth ps (suc i) = getD ps i []
 abbrev pub stepItems : Meaning → List (List ℕ)
 stepItems m = map stepItem (m .steps)
 
--- the bytes found by a place in any bytes: the field's item of the meaning whose record they are
-pub record FieldShown (b : List ℕ) (place : ℕ) (found : List ℕ) : Type 0 where
-  pub is : found ≡ shown b (field b place)
-  pub item : (m : Meaning) → IsRecord b m → found ≡ nth (fields m) place
-
--- and by a number: the step's
-pub record StepShown (b : List ℕ) (number : ℕ) (found : List ℕ) : Type 0 where
-  pub is : found ≡ shown b (step b number)
-  pub item : (m : Meaning) → IsRecord b m → found ≡ nth (stepItems m) number
+-- the bytes found by a number in any bytes, which is a field's place or a step's: the item of the meaning whose record they are
+pub record ItemShown (lookup : List ℕ → ℕ → Answer Found) (items : Meaning → List (List ℕ)) (b : List ℕ) (number : ℕ) (found : List ℕ) : Type 0 where
+  pub is : found ≡ shown b (lookup b number)
+  pub item : (m : Meaning) → IsRecord b m → found ≡ nth (items m) number
 
 -- the same in the record of a text: items of the text's own meaning, and nothing of a text that is refused
 pub record TextItem (items : Meaning → List (List ℕ)) (a : Answer Reading) (text : List ℕ) (number : ℕ) (found : List ℕ) : Type 0 where

@@ -1,4 +1,3 @@
 pub mod Demands
 pub mod Records
 pub mod Contract
-pub mod Named

@@ -3,17 +3,15 @@
 ghost use mathlib.Core.Path.{_≡_};
 ghost use mathlib.Core.Bool.{true};
 ghost use Rattle.meaning.specs.Record.{fields};
+ghost use Rattle.record.specs.Jobs as jobs;
 ghost use Rattle.record.specs.Jobs.{lookupOf};
 ghost use Rattle.refusal.specs.Told.{toldOf};
 ghost use Rattle.scenario.specs.Scenario.{scenarioOf};
 ghost use Rattle.scenario.specs.Told.{ScenarioEnds};
 ghost use Rattle.demands.specs.Records.{GoodRecord, RecordEnds};
-ghost use Rattle.demands.specs.Contract.{StepsTo};
+ghost use Rattle.demands.specs.Contract.{lookup, items, count, PartsTo};
 ghost use Rattle.demands.specs.Demands.{TreeEnds, TellsRefusal, Compares, lacks, isGood, outOfRange};
-ghost use Rattle.demands.specs.Demands.{FieldShown, StepShown, stepItems, TextItem};
-
-pub mod names;
-
+ghost use Rattle.demands.specs.Demands.{ItemShown, stepItems, TextItem};
 use item::same_bytes;
 use record::Lookup;
 use record::RecordAnswer;
@@ -194,65 +192,66 @@ pub fn reads_alike(
     }
 }
 
-// The item that a place finds in any bytes; nothing where there is none.
-pub fn field_item(record: &[u8], place: usize) -> &[u8]
-    ensures { λ r. ⌜ FieldShown (now («record» .entry)) place (now r) ⌝ }
+// The two lookups: of a field by its place, of a step by its number.
+enum By {
+    Place,
+    Number,
+}
+
+fn find(record: &[u8], by: By, number: usize) -> Lookup
+    ensures { λ r. ⌜ lookupOf r ≡ lookup by (now («record» .entry)) number ⌝ }
 {
-    match field(record, place) {
+    match by {
+        By::Place => field(record, number),
+        By::Number => step(record, number),
+    }
+}
+
+// How many there are to find in a record of so many steps.
+fn count_of(by: By, steps: usize) -> usize
+    ensures { λ r. ⌜ r ≡ count by steps ⌝ }
+{
+    match by {
+        By::Place => 8,
+        By::Number => steps,
+    }
+}
+
+// The item that is found in any bytes; nothing where there is none.
+fn item_of(record: &[u8], by: By, number: usize) -> &[u8]
+    ensures { λ r. ⌜ ItemShown (lookup by) (items by) (now («record» .entry)) number (now r) ⌝ }
+{
+    match find(record, by, number) {
         Lookup::Found { start, end } => part(record, start, end),
         Lookup::Nothing => part(record, 0, 0),
         Lookup::Refused(_) => part(record, 0, 0),
     }
+}
+
+// The item that a place finds.
+pub fn field_item(record: &[u8], place: usize) -> &[u8]
+    ensures { λ r. ⌜ ItemShown jobs.field fields (now («record» .entry)) place (now r) ⌝ }
+{
+    item_of(record, By::Place, place)
 }
 
 // The item that a step's number finds.
 pub fn step_item(record: &[u8], number: usize) -> &[u8]
-    ensures { λ r. ⌜ StepShown (now («record» .entry)) number (now r) ⌝ }
+    ensures { λ r. ⌜ ItemShown jobs.step stepItems (now («record» .entry)) number (now r) ⌝ }
 {
-    match step(record, number) {
-        Lookup::Found { start, end } => part(record, start, end),
-        Lookup::Nothing => part(record, 0, 0),
-        Lookup::Refused(_) => part(record, 0, 0),
-    }
+    item_of(record, By::Number, number)
 }
 
-// The item that a place finds in the record of a text.
-pub fn text_field<'a>(
+// The item that is found in the record of a text.
+fn text_item<'a>(
     text: &[u8],
     work: &mut [u8],
     record: &'a mut [u8],
     lines: &mut [u32],
-    place: usize,
-) -> &'a [u8]
-    ensures { λ r. ⌜ TextItem fields (scenarioOf (now (work .entry)) (now («record» .entry)) (now (lines .entry)) (now (text .entry)))
-        (now (text .entry)) place (now r) ⌝ }
-{
-    match read_scenario(text, work, record, lines) {
-        ScenarioAnswer::Refused(_) => {
-            let whole = &record[..];
-            part(whole, 0, 0)
-        }
-        ScenarioAnswer::Read {
-            tree_bytes: _,
-            record_bytes,
-            line_bytes: _,
-            steps: _,
-        } => {
-            let whole = &record[..];
-            field_item(&whole[..record_bytes], place)
-        }
-    }
-}
-
-// The item that a step's number finds there.
-pub fn text_step<'a>(
-    text: &[u8],
-    work: &mut [u8],
-    record: &'a mut [u8],
-    lines: &mut [u32],
+    by: By,
     number: usize,
 ) -> &'a [u8]
-    ensures { λ r. ⌜ TextItem stepItems (scenarioOf (now (work .entry)) (now («record» .entry)) (now (lines .entry)) (now (text .entry)))
+    ensures { λ r. ⌜ TextItem (items by) (scenarioOf (now (work .entry)) (now («record» .entry)) (now (lines .entry)) (now (text .entry)))
         (now (text .entry)) number (now r) ⌝ }
 {
     match read_scenario(text, work, record, lines) {
@@ -267,9 +266,37 @@ pub fn text_step<'a>(
             steps: _,
         } => {
             let whole = &record[..];
-            step_item(&whole[..record_bytes], number)
+            item_of(&whole[..record_bytes], by, number)
         }
     }
+}
+
+// The item that a place finds there.
+pub fn text_field<'a>(
+    text: &[u8],
+    work: &mut [u8],
+    record: &'a mut [u8],
+    lines: &mut [u32],
+    place: usize,
+) -> &'a [u8]
+    ensures { λ r. ⌜ TextItem fields (scenarioOf (now (work .entry)) (now («record» .entry)) (now (lines .entry)) (now (text .entry)))
+        (now (text .entry)) place (now r) ⌝ }
+{
+    text_item(text, work, record, lines, By::Place, place)
+}
+
+// The item that a step's number finds there.
+pub fn text_step<'a>(
+    text: &[u8],
+    work: &mut [u8],
+    record: &'a mut [u8],
+    lines: &mut [u32],
+    number: usize,
+) -> &'a [u8]
+    ensures { λ r. ⌜ TextItem stepItems (scenarioOf (now (work .entry)) (now («record» .entry)) (now (lines .entry)) (now (text .entry)))
+        (now (text .entry)) number (now r) ⌝ }
+{
+    text_item(text, work, record, lines, By::Number, number)
 }
 
 // Whether a lookup is refused with 53.
@@ -286,74 +313,48 @@ fn is_out_of_range(found: Lookup) -> bool
     }
 }
 
-// Whether every place but 1 to 8 is refused so in a good record.
-pub fn refuses_other_places(record: &[u8], place: usize) -> bool
-    ensures { λ r. ⌜ r ≡ true ⌝ }
-{
-    match check_record(record) {
-        RecordAnswer::Refused(_) => true,
-        RecordAnswer::Good { steps: _ } => {
-            if place == 0 {
-                return is_out_of_range(field(record, place));
-            }
-            if place > 8 {
-                return is_out_of_range(field(record, place));
-            }
-            true
-        }
-    }
-}
-
-// Whether every number but those up to the count is.
-pub fn refuses_other_numbers(record: &[u8], number: usize) -> bool
+// Whether every number but 1 to the count is refused so in a good record.
+fn refuses_others(record: &[u8], by: By, number: usize) -> bool
     ensures { λ r. ⌜ r ≡ true ⌝ }
 {
     match check_record(record) {
         RecordAnswer::Refused(_) => true,
         RecordAnswer::Good { steps } => {
             if number == 0 {
-                return is_out_of_range(step(record, number));
+                return is_out_of_range(find(record, by, number));
             }
-            if number > steps {
-                return is_out_of_range(step(record, number));
+            if number > count_of(by, steps) {
+                return is_out_of_range(find(record, by, number));
             }
             true
         }
     }
 }
 
-// Whether the fields found by place stand one behind another, from behind the header to the end.
-fn fields_fill(record: &[u8], steps: usize) -> bool
-    requires { ⌜ GoodRecord (now «record») steps ⌝ }
+// Of places, all but 1 to 8.
+pub fn refuses_other_places(record: &[u8], place: usize) -> bool
     ensures { λ r. ⌜ r ≡ true ⌝ }
 {
-    let mut at = 6;
-    let mut done = 0;
-    while done < 8 {
-        match field(record, done + 1) {
-            Lookup::Found { start, end } => {
-                if start != at {
-                    return false;
-                }
-                at = end;
-            }
-            Lookup::Nothing => return false,
-            Lookup::Refused(_) => return false,
-        }
-        done += 1;
-    }
-    at == record.len()
+    refuses_others(record, By::Place, place)
 }
 
-// The same of the steps found by number, from where the first begins.
-fn steps_fill(record: &[u8], steps: usize, first: usize) -> bool
-    requires { ⌜ GoodRecord (now «record») steps × StepsTo (now «record») 0 first ⌝ }
+// Of step numbers, all but 1 to how many there are.
+pub fn refuses_other_numbers(record: &[u8], number: usize) -> bool
     ensures { λ r. ⌜ r ≡ true ⌝ }
 {
+    refuses_others(record, By::Number, number)
+}
+
+// Whether what is found stands one behind another, from where the first begins to the end.
+fn fill(record: &[u8], by: By, steps: usize, first: usize) -> bool
+    requires { ⌜ GoodRecord (now «record») steps × PartsTo by (now «record») 0 first ⌝ }
+    ensures { λ r. ⌜ r ≡ true ⌝ }
+{
+    let count = count_of(by, steps);
     let mut at = first;
     let mut done = 0;
-    while done < steps {
-        match step(record, done + 1) {
+    while done < count {
+        match find(record, by, done + 1) {
             Lookup::Found { start, end } => {
                 if start != at {
                     return false;
@@ -375,11 +376,11 @@ pub fn lookups_fill(record: &[u8]) -> bool
     match check_record(record) {
         RecordAnswer::Refused(_) => true,
         RecordAnswer::Good { steps } => {
-            if !fields_fill(record, steps) {
+            if !fill(record, By::Place, steps, 6) {
                 return false;
             }
             match field(record, 8) {
-                Lookup::Found { start, end: _ } => steps_fill(record, steps, start + 6),
+                Lookup::Found { start, end: _ } => fill(record, By::Number, steps, start + 6),
                 Lookup::Nothing => false,
                 Lookup::Refused(_) => false,
             }

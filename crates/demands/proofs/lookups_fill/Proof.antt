@@ -2,15 +2,19 @@
 use borrow.Author.Needs.{needs}
 use native.Mathlib.Omega.{arith}
 use Rattle.demands.proofs.Records.{good-as}
-use Rattle.demands.proofs.Filling.{steps-begin, start-fits, last-some, last-good}
+use Rattle.demands.specs.declared.By.the-variants.{Place}
+use Rattle.demands.proofs.Filling.{fields-start, part-some, part-good, steps-begin, start-fits}
 use Rattle.demands.proofs.lookups_fill.Statement.{statement}
 use Rattle.demands.proofs.lookups_fill.Tie as tie
 
-fields-fill-requires : tie.Need-fields-fill-requires
-fields-fill-requires c κs = good-as (c .before .before .before .before .before .args .«record» .now) (λ i. omega (arith, c .before .before .before .before .shared-slice-known .given i)) (c .before .steps .given .1) (c .before .before .before .check-record .ensures)
+fill-requires : tie.Need-fill-requires
+fill-requires c κs =
+    let a = c .before .before .before .before .before .args in
+    let w = good-as (a .«record» .now) (λ i. omega (arith, c .before .before .before .before .shared-slice-known .given i)) (c .before .steps .given .1) (c .before .before .before .check-record .ensures) in
+    (w, fields-start (a .«record» .now))
 
-add-steps-fill : tie.Need-add-steps-fill
-add-steps-fill c =
+add-fill : tie.Need-add-fill
+add-fill c =
     let a = c .before .before .before .before .before .before .before .before .before .before .before .args in
     let r = c .before .before .before .before .before .before .before .before .before .check-record in
     let w = good-as (a .«record» .now) (λ i. omega (arith, c .before .before .before .before .before .before .before .before .before .before .shared-slice-known .given i)) (c .before .before .before .before .before .before .before .steps .given .1) (r .ensures) in
@@ -18,8 +22,8 @@ add-steps-fill c =
     let g = c .before .start .given in
     omega (arith, start-fits w (f .result) (f .ensures) (g .0 .0) (g .0 .1 .0) (g .1))
 
-steps-fill-requires : tie.Need-steps-fill-requires
-steps-fill-requires c κs =
+fill-requires-2 : tie.Need-fill-requires-2
+fill-requires-2 c κs =
     let a = c .before .before .before .before .before .before .before .before .before .before .before .args in
     let r = c .before .before .before .before .before .before .before .before .before .check-record in
     let w = good-as (a .«record» .now) (λ i. omega (arith, c .before .before .before .before .before .before .before .before .before .before .shared-slice-known .given i)) (c .before .before .before .before .before .before .before .steps .given .1) (r .ensures) in
@@ -33,7 +37,7 @@ returns-4 c =
     let r = c .before .before .before .before .before .before .before .before .check-record in
     let w = good-as (a .«record» .now) (λ i. omega (arith, c .before .before .before .before .before .before .before .before .before .shared-slice-known .given i)) (c .before .before .before .before .before .before .steps .given .1) (r .ensures) in
     let f = c .before .before .field in
-    absurd (last-some w (f .result) (f .ensures) (c .enum-told2 .given .1))
+    absurd (part-some w Place 7 (omega arith) (f .result) (f .ensures) (c .enum-told2 .given .1))
 
 returns-5 : tie.Need-returns-5
 returns-5 c =
@@ -42,7 +46,7 @@ returns-5 c =
     let w = good-as (a .«record» .now) (λ i. omega (arith, c .before .before .before .before .before .before .before .before .before .shared-slice-known .given i)) (c .before .before .before .before .before .before .steps .given .1) (r .ensures) in
     let f = c .before .before .field in
     let g = c .enum-told3 .given in
-    absurd (last-good w (f .result) (f .ensures) (g .0 .0) (g .1))
+    absurd (part-good w Place 7 (omega arith) (f .result) (f .ensures) (g .0 .0) (g .1))
 
 pub lookups-fill-spec : {M : Type 1} → statement M
 lookups-fill-spec =
@@ -51,12 +55,12 @@ lookups-fill-spec =
     (λ c κs. search needs)
     (λ c. search needs)
     (λ c. search needs)
-    fields-fill-requires
+    fill-requires
     (λ c. search needs)
     (λ c κs. search needs)
     (λ c. search needs)
-    add-steps-fill
-    steps-fill-requires
+    add-fill
+    fill-requires-2
     (λ c. search needs)
     (λ c. search needs)
     (λ c. search needs)

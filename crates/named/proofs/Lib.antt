@@ -1,0 +1,4 @@
+pub mod Counted
+pub mod Trees
+pub mod Jobs
+pub mod Named
