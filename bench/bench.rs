@@ -20,6 +20,8 @@ use scenario::Scenario;
 
 const RUNS: usize = 30;
 
+const PARTS: [usize; 4] = [8, 4, 2, 1];
+
 #[cfg(libyaml)]
 mod libyaml {
     unsafe extern "C" {
@@ -102,48 +104,97 @@ fn key(i: usize) -> String {
     [i / 17_576, i / 676, i / 26, i].map(digit).iter().collect()
 }
 
-fn mapping(keys: usize) -> String {
-    headed(&format!("setup: {{{}}}\n", (0..keys).map(|i| format!("{}: 1,", key(i))).collect::<String>()))
+/// A key of three bytes.
+fn short_key(i: usize) -> String {
+    [i / 4096, i / 64, i].map(|n| char::from(b'0' + (n % 64) as u8)).iter().collect()
 }
 
-fn texts() -> Vec<(&'static str, String)> {
-    let block: String = (0..680).map(|i| format!("  - strike: {i}\n    name: stroke {i}\n    timeout: 5s\n")).collect();
-    let flow = repeated(64_000, |i| format!("{{strike: {i}, name: stroke {i}}}, "));
-    let integers = repeated(64_000, |i| format!("{}, ", i % 100));
-    let literal: String = (0..2000).map(|i| format!("  line {i} of a hymn, as sung\n")).collect();
-    let comments: String = (0..1300).map(|i| format!("# a comment in line {i}, which says nothing more\n")).collect();
+fn lines(count: usize, line: impl Fn(usize) -> String) -> String {
+    (0..count).map(line).collect()
+}
+
+fn setup(rest: String) -> String {
+    headed(&format!("setup:{rest}\n"))
+}
+
+/// One text of each kind, a `part`-th as long as may be.
+fn texts(part: usize) -> Vec<(&'static str, String)> {
+    let bytes = 64_000 / part;
+    let flow = repeated(bytes, |i| format!("{{strike: {i}, name: stroke {i}}}, "));
+    let integers = repeated(bytes, |i| format!("{}, ", i % 100));
     vec![
-        ("680 block steps", headed(&format!("steps:\n{block}"))),
+        ("block steps", headed(&format!("steps:\n{}", lines(680 / part, |i| format!("  - strike: {i}\n    name: stroke {i}\n    timeout: 5s\n"))))),
         ("flow steps", headed(&format!("steps: [{flow}]\n"))),
-        ("one mapping of 8,000 keys", mapping(8000)),
-        ("a sequence of integers", headed(&format!("setup: [{integers}]\n"))),
-        ("a literal", headed(&format!("setup: |\n{literal}"))),
-        ("comments", headed(&comments)),
-        ("examples/noon.yaml", include_str!("../examples/noon.yaml").to_owned()),
+        ("one line of 8,000 keys", setup(format!(" {{{}}}", lines(8000 / part, |i| format!("{}: 1,", key(i)))))),
+        ("one line of 6,700 keys", setup(format!(" {{{}}}", lines(6700 / part, |i| format!("{}: 1, ", key(i)))))),
+        ("1,900 keys in lines of their own", setup(format!("\n{}", lines(1900 / part, |i| format!("  {}: 1\n", key(i)))))),
+        ("a sequence of integers", setup(format!(" [{integers}]"))),
+        ("a literal", setup(format!(" |\n{}", lines(2000 / part, |i| format!("  line {i} of a hymn, as sung\n"))))),
+        ("comments", headed(&lines(1300 / part, |i| format!("# a comment in line {i}, which says nothing more\n")))),
     ]
+}
+
+fn item(kind: u16, content: &[u8]) -> Vec<u8> {
+    [&(content.len() as u32).to_le_bytes()[..], &kind.to_le_bytes(), content].concat()
 }
 
 /// A record of `setup` alone, by the layout of docs/RECORD.md.
 fn record_of(setup: &[u8]) -> Vec<u8> {
-    let item = |kind: u16, content: &[u8]| [&(content.len() as u32).to_le_bytes()[..], &kind.to_le_bytes(), content].concat();
     let defaults = item(17, &[item(0, b""), item(0, b"")].concat());
     let fields = [item(3, b"n"), item(3, b""), item(4, b""), item(3, b""), setup.to_vec(), defaults, item(4, b""), item(18, b"")];
     item(16, &fields.concat())
 }
 
-fn records() -> Vec<(String, Vec<u8>)> {
-    let item = |kind: u16, content: &[u8]| [&(content.len() as u32).to_le_bytes()[..], &kind.to_le_bytes(), content].concat();
-    let entries = |keys: usize| (0..keys).flat_map(|i| [item(3, key(i).as_bytes()), item(1, &[1])].concat()).collect::<Vec<u8>>();
-    let small = item(5, &entries(3));
-    let mut rows = Vec::new();
-    for kib in [64, 1024] {
-        let count = (kib * 1024 - 100) / small.len();
-        rows.push((format!("{count} mappings of 3 entries"), record_of(&item(4, &small.repeat(count)))));
-    }
-    for keys in [1000, 4000, 8000] {
-        rows.push((format!("one mapping of {keys} entries"), record_of(&item(5, &entries(keys)))));
-    }
-    rows
+fn mapping(keys: impl Iterator<Item = String>) -> Vec<u8> {
+    item(5, &keys.flat_map(|key| [item(3, key.as_bytes()), item(0, b"")].concat()).collect::<Vec<u8>>())
+}
+
+/// Keys whose bits all stand in one word, where the reader tells new keys by bits (crates/entries/src/filter.rt).
+fn crowded() -> impl Iterator<Item = String> {
+    let hash = |key: &str| key.bytes().fold(0, |h: u32, b| h.wrapping_add(u32::from(b) + 1).wrapping_mul(16_777_619));
+    (0..).map(|i: usize| format!("{i:x}")).filter(move |key| hash(key) % 2048 == 0)
+}
+
+/// One record of each kind, a `part`-th as long as may be.
+fn records(part: usize) -> Vec<(&'static str, Vec<u8>)> {
+    let small = mapping((0..3).map(key));
+    let count = ((1 << 20) - 100) / part / small.len();
+    vec![
+        ("mappings of 3 entries", record_of(&item(4, &small.repeat(count)))),
+        ("one mapping of 69,900 keys", record_of(&mapping((0..69_900 / part).map(short_key)))),
+        ("one of 55,000 keys that share a word", record_of(&mapping(crowded().take(55_000 / part)))),
+    ]
+}
+
+/// A row of the table of texts.
+fn compare(name: &str, text: &str, lent: &mut Lent) {
+    let rust = best(|| _ = black_box(Scenario::parse(text).expect("accepted")));
+    let yaml = libyaml::reads(text).map(|read| {
+        assert!(read, "{name}: libyaml refuses");
+        best(|| _ = black_box(libyaml::reads(text)))
+    });
+    let ours = best(|| _ = black_box(lent.read(text)));
+    let cleared = best(|| {
+        lent.clear();
+        _ = black_box(lent.read(text));
+    });
+    let shown = |n: Option<f64>, digits: usize| n.map_or("-".to_owned(), |n| format!("{n:.digits$}"));
+    println!(
+        "| {name} | {} | {rust:.0} | {} | {ours:.1} | {cleared:.0} | {:.2} | {} |",
+        text.len(), shown(yaml, 0), rust / ours, shown(yaml.map(|yaml| yaml / ours), 2),
+    );
+}
+
+/// A row of a table of growth: how long a half, a quarter and an eighth take, and the whole.
+fn grow<T>(name: &str, parts: [T; 4], mut run: impl FnMut(&T)) {
+    let times = parts.map(|part| format!("{:.1}", best(|| run(&part))));
+    println!("| {name} | {} |", times.join(" | "));
+}
+
+/// The texts or records of one kind, the shortest first.
+fn each_kind<T>(kinds: impl Fn(usize) -> Vec<(&'static str, T)>) -> Vec<(&'static str, [T; 4])> {
+    let [a, b, c, d] = PARTS.map(kinds);
+    a.into_iter().zip(b).zip(c).zip(d).map(|(((a, b), c), d)| (a.0, [a.1, b.1, c.1, d.1])).collect()
 }
 
 fn main() {
@@ -151,27 +202,16 @@ fn main() {
     println!("Microseconds of processor time, best of {RUNS}. Ours is lent outputs that are enough for any text; \"cleared\" fills them with zeros before each run.\n");
     println!("| text | bytes | the Rust | libyaml | ours | ours, cleared | the Rust / ours | libyaml / ours |");
     println!("|---|---|---|---|---|---|---|---|");
-    for (name, text) in texts() {
-        let rust = best(|| _ = black_box(Scenario::parse(&text).expect("accepted")));
-        let yaml = libyaml::reads(&text).map(|read| {
-            assert!(read, "{name}: libyaml refuses");
-            best(|| _ = black_box(libyaml::reads(&text)))
-        });
-        let ours = best(|| _ = black_box(lent.read(&text)));
-        let cleared = best(|| {
-            lent.clear();
-            _ = black_box(lent.read(&text));
-        });
-        let shown = |n: Option<f64>, digits: usize| n.map_or("-".to_owned(), |n| format!("{n:.digits$}"));
-        println!(
-            "| {name} | {} | {rust:.0} | {} | {ours:.1} | {cleared:.0} | {:.2} | {} |",
-            text.len(), shown(yaml, 0), rust / ours, shown(yaml.map(|yaml| yaml / ours), 2),
-        );
+    for (name, text) in texts(1) {
+        compare(name, &text, &mut lent);
     }
-    println!("\n| record | bytes | drum_check_record |\n|---|---|---|");
-    for (name, record) in records() {
-        drum::check_record(&record).expect("a record");
-        let time = best(|| _ = black_box(drum::check_record(&record)));
-        println!("| {name} | {} | {time:.0} |", record.len());
+    compare("examples/noon.yaml", include_str!("../examples/noon.yaml"), &mut lent);
+    println!("\n| text | an eighth | a quarter | half | whole |\n|---|---|---|---|---|");
+    for (name, parts) in each_kind(texts) {
+        grow(name, parts, |text| _ = black_box(lent.read(text)));
+    }
+    println!("\n| record | an eighth | a quarter | half | whole |\n|---|---|---|---|---|");
+    for (name, parts) in each_kind(records) {
+        grow(name, parts, |record| _ = black_box(drum::check_record(record).expect("a record")));
     }
 }
