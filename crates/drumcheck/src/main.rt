@@ -9,7 +9,7 @@ use refusal::Refusal;
 use scenario::ScenarioAnswer;
 use words::print_words;
 
-pub fn print(text: &[u8]) {
+fn print(text: &[u8]) {
     io::write_all(STDOUT_FILENO, text);
 }
 

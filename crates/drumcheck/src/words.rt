@@ -1,7 +1,7 @@
 // The words of each refusal that reading a text can give: those of docs/REFUSALS.md.
 use crate::print;
 
-pub fn print_words(number: u32) {
+pub(crate) fn print_words(number: u32) {
     match number {
         1 => print(b"the text is longer than 65,535 bytes"),
         2 => print(b"the text is not UTF-8"),

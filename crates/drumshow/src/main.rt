@@ -15,11 +15,11 @@ use scalar::print_text;
 // More levels than a record has.
 const DEEPEST: usize = 40;
 
-pub fn print(text: &[u8]) {
+fn print(text: &[u8]) {
     io::write_all(STDOUT_FILENO, text);
 }
 
-pub fn print_number(n: u64) {
+fn print_number(n: u64) {
     io::print_decimal(STDOUT_FILENO, n);
 }
 

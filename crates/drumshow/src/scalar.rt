@@ -10,7 +10,7 @@ fn wide(b: u8) -> u64 {
 }
 
 // The two's complement of eight bytes, the lowest first.
-pub fn print_integer(content: &[u8]) {
+pub(crate) fn print_integer(content: &[u8]) {
     let mut n: u64 = 0;
     let mut i = content.len();
     while i > 0 {
@@ -53,7 +53,7 @@ fn print_escape(b: u8) {
     }
 }
 
-pub fn print_text(text: &[u8]) {
+pub(crate) fn print_text(text: &[u8]) {
     let mut run = 0;
     print(b"\"");
     for i in 0..text.len() {

@@ -25,7 +25,7 @@ fn print_entries(text: &[u8], table: &[u16; 8192], count: usize) {
     }
 }
 
-pub fn print_lines(text: &[u8]) {
+pub(crate) fn print_lines(text: &[u8]) {
     if text.len() > 65535 {
         return;
     }

@@ -53,7 +53,7 @@ fn print_integers() {
     print_int(true, 9223372036854775808);
 }
 
-pub fn print_items() {
+pub(crate) fn print_items() {
     print_integers();
     print_small(true);
     print_small(false);
@@ -69,7 +69,7 @@ fn place(n: usize) -> usize {
     if n == END { 18446744073709551615 } else { n }
 }
 
-pub fn print_header(s: &[u8], n: usize) {
+pub(crate) fn print_header(s: &[u8], n: usize) {
     match item::header_at(s, place(n)) {
         Header::Item { kind, from, to } => {
             print(b"item");
@@ -83,7 +83,7 @@ pub fn print_header(s: &[u8], n: usize) {
 }
 
 // So many bytes are held against the rest.
-pub fn print_same(text: &[u8], n: usize) {
+pub(crate) fn print_same(text: &[u8], n: usize) {
     if item::same_bytes(record::part(text, 0, n), record::part(text, n, text.len())) {
         print(b"same");
     } else {

@@ -3,43 +3,43 @@ ghost use Prim.Native.Nat.{_<_};
 use libc::STDOUT_FILENO;
 use refusal::Refusal;
 
-pub fn print(text: &[u8]) {
+pub(crate) fn print(text: &[u8]) {
     io::write_all(STDOUT_FILENO, text);
 }
 
-pub fn print_ok() {
+pub(crate) fn print_ok() {
     print(b"ok");
 }
 
-pub fn print_byte(b: u8) {
+pub(crate) fn print_byte(b: u8) {
     io::write_all(STDOUT_FILENO, &[b]);
 }
 
-pub fn print_number(n: usize) {
+pub(crate) fn print_number(n: usize) {
     io::print_decimal(STDOUT_FILENO, n as u64);
 }
 
 // Behind a space.
-pub fn print_spaced(n: usize) {
+pub(crate) fn print_spaced(n: usize) {
     print_byte(b' ');
     print_number(n);
 }
 
 // A byte as a wider number; the caller owes nothing for the cast.
-pub fn wide(b: u8) -> usize
+pub(crate) fn wide(b: u8) -> usize
     ensures { λ r. ⌜ r < 256 ⌝ }
 {
     b as usize
 }
 
 // In hexadecimal.
-pub fn print_bytes(bytes: &[u8]) {
+pub(crate) fn print_bytes(bytes: &[u8]) {
     for i in 0..bytes.len() {
         io::print_hex(STDOUT_FILENO, wide(bytes[i]) as u64, 2);
     }
 }
 
-pub fn print_refusal(e: Refusal) {
+pub(crate) fn print_refusal(e: Refusal) {
     let told = e.told();
     print(b"refused");
     print_spaced(told.number as usize);
@@ -48,12 +48,12 @@ pub fn print_refusal(e: Refusal) {
 }
 
 // Something that was lent is not as it must be.
-pub fn print_mark() {
+pub(crate) fn print_mark() {
     print(b" other");
 }
 
 // A mark, where a byte from this place on is another one.
-pub fn print_other(bytes: &[u8], from: usize, b: u8) {
+pub(crate) fn print_other(bytes: &[u8], from: usize, b: u8) {
     for i in from..bytes.len() {
         if bytes[i] != b {
             return print_mark();
@@ -62,13 +62,13 @@ pub fn print_other(bytes: &[u8], from: usize, b: u8) {
 }
 
 // So many bytes, behind a space.
-pub fn print_front(bytes: &[u8], size: usize) {
+pub(crate) fn print_front(bytes: &[u8], size: usize) {
     print_byte(b' ');
     print_bytes(record::part(bytes, 0, size));
 }
 
 // So many bytes were written over sevens; those behind them must stay.
-pub fn print_written(bytes: &[u8], size: usize) {
+pub(crate) fn print_written(bytes: &[u8], size: usize) {
     print_front(bytes, size);
     print_other(bytes, size, 7);
 }

@@ -10,7 +10,7 @@ use record::RecordAnswer;
 use refusal::Refusal;
 
 // Where the found part begins, and how long it is.
-pub fn print_lookup(bytes: &[u8], found: Lookup) {
+pub(crate) fn print_lookup(bytes: &[u8], found: Lookup) {
     match found {
         Lookup::Found { start, end } => {
             print_spaced(start);
@@ -54,7 +54,7 @@ fn print_bad(bytes: &[u8], e: Refusal) {
     print_lookup(bytes, record::step(bytes, 0));
 }
 
-pub fn print_record(bytes: &[u8]) {
+pub(crate) fn print_record(bytes: &[u8]) {
     match record::check_record(bytes) {
         RecordAnswer::Good { steps } => print_good(bytes, steps),
         RecordAnswer::Refused(e) => print_bad(bytes, e),
@@ -62,7 +62,7 @@ pub fn print_record(bytes: &[u8]) {
 }
 
 // A record with zeros in it, so that one at the limit need not be stored: a text at the front, and one from a place on.
-pub fn print_long(buffer: &mut [u8], from: usize, end: usize) {
+pub(crate) fn print_long(buffer: &mut [u8], from: usize, end: usize) {
     if from > buffer.len() {
         return;
     }
@@ -79,7 +79,7 @@ fn print_part(start: usize, end: usize, next: u8) {
 }
 
 // Parts that are in order and inside, and parts that are not.
-pub fn print_parts() {
+pub(crate) fn print_parts() {
     print_part(1, 3, b'.');
     print_part(0, 6, b'.');
     print_part(6, 6, b'.');

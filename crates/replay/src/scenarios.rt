@@ -125,7 +125,7 @@ fn print_in_arrays(
     print_in_parts(section, text, work, record, lines);
 }
 
-pub fn print_scenario(section: Section, text: &[u8]) {
+pub(crate) fn print_scenario(section: Section, text: &[u8]) {
     print_in_arrays(
         section,
         text,

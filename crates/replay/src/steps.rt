@@ -110,7 +110,7 @@ fn print_in_arrays(
 }
 
 // The first text is a name list.
-pub fn print_scenarios(buffer: &mut [u8]) {
+pub(crate) fn print_scenarios(buffer: &mut [u8]) {
     print_in_arrays(
         buffer,
         &mut [0u8; 65536],
@@ -148,7 +148,7 @@ fn print_with_lines(text: &[u8], lines: &mut [u32], start: usize, end: usize)
 }
 
 // Of the numbers in front, the first is the record's length, the second how many lines are lent.
-pub fn print_record_check(text: &[u8]) {
+pub(crate) fn print_record_check(text: &[u8]) {
     let mut lines = [0u32; 64];
     let size = number_at(text, 0);
     let count = number_at(text, 4);
@@ -167,7 +167,7 @@ fn print_values(bytes: &[u8], key: &[u8], end: usize) {
 }
 
 // The number in front is the record's length; what stands behind the record is looked for.
-pub fn print_lookups(text: &[u8]) {
+pub(crate) fn print_lookups(text: &[u8]) {
     let end = 4 + number_at(text, 0);
     let bytes = part(text, 4, end);
     let sought = part(text, end, text.len());

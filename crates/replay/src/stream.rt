@@ -4,9 +4,9 @@ use crate::print::wide;
 use libc::STDIN_FILENO;
 
 // Ends a section where a text could follow.
-pub const END: usize = 4294967295;
+pub(crate) const END: usize = 4294967295;
 // More than the texts of a section, and than the sections.
-pub const MANY: usize = 100000000;
+pub(crate) const MANY: usize = 100000000;
 
 fn pair(a: u8, b: u8) -> usize
     ensures { λ r. ⌜ r < 65536 ⌝ }
@@ -15,7 +15,7 @@ fn pair(a: u8, b: u8) -> usize
 }
 
 // The number at a place of a text, or 0 where fewer bytes are left.
-pub fn number_at(bytes: &[u8], at: usize) -> usize
+pub(crate) fn number_at(bytes: &[u8], at: usize) -> usize
     ensures { λ r. ⌜ r < 4294967296 ⌝ }
 {
     if bytes.len() < 4 {
@@ -28,7 +28,7 @@ pub fn number_at(bytes: &[u8], at: usize) -> usize
 }
 
 // END where the stream ends.
-pub fn next_number() -> usize {
+pub(crate) fn next_number() -> usize {
     let mut bytes = [0u8; 4];
     if io::read_full(STDIN_FILENO, &mut bytes) < 4 {
         return END;
@@ -38,7 +38,7 @@ pub fn next_number() -> usize {
 
 // The next text is put at the front of the buffer, and its length answered; more than the buffer's where the section or the stream
 // ends, or where the text is too long for it.
-pub fn next_text(buffer: &mut [u8]) -> usize {
+pub(crate) fn next_text(buffer: &mut [u8]) -> usize {
     let n = next_number();
     if n <= buffer.len() {
         if io::read_full(STDIN_FILENO, &mut buffer[0..n]) < n {

@@ -26,7 +26,7 @@ fn print_tree_in(text: &[u8], work: &mut [u8; 1048576]) {
     print_answer(tree::read_tree(text, work), work);
 }
 
-pub fn print_tree(text: &[u8]) {
+pub(crate) fn print_tree(text: &[u8]) {
     print_tree_in(text, &mut [7u8; 1048576]);
 }
 
@@ -62,6 +62,6 @@ fn print_least_of(text: &[u8], work: &mut [u8]) {
     }
 }
 
-pub fn print_least(text: &[u8]) {
+pub(crate) fn print_least(text: &[u8]) {
     print_least_of(text, &mut [7u8; 1024]);
 }

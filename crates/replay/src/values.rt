@@ -35,7 +35,7 @@ fn print_value(s: &[u8], out: &mut [u8; 65535])
     print_whole(flow::flow(s, 32, Role::AsValue, 1, out, 0), out);
 }
 
-pub fn print_line(s: &[u8]) {
+pub(crate) fn print_line(s: &[u8]) {
     if s.len() > 65535 {
         return;
     }
