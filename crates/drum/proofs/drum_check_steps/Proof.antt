@@ -1,23 +1,20 @@
 -- The job, told. Assumes nothing.
 use borrow.Author.Needs.{needs}
-use mathlib.Core.Path.{sym, ap, _∙_}
 use Rattle.check_steps.specs.CheckSteps.{answerOf}
 use Rattle.drum.specs.Numbers.{numbers, ofOne}
-use Rattle.drum.proofs.Telling.{tells}
+use Rattle.drum.proofs.Telling.{told-case}
 use Rattle.drum.proofs.drum_check_steps.Statement.{statement}
 use Rattle.drum.proofs.drum_check_steps.Tie as tie
 
 returns : tie.Need-returns
 unfolding numbers ofOne
 returns c =
-    let t = tells ofOne (ap answerOf (sym (c .before .before .before .before .before .steps .given .1)) ∙ c .before .before .before .before .before .before .before .check-steps .ensures) (c .before .before .tell .ensures) in
-    (t .result, t .places)
+    told-case answerOf ofOne (c .before .before .before .before .before .steps .given .1) (c .before .before .before .before .before .before .before .check-steps .ensures) (c .before .before .tell .ensures)
 
 returns-2 : tie.Need-returns-2
 unfolding numbers
 returns-2 c =
-    let t = tells ofOne (ap answerOf (sym (c .before .before .before .before .before .e .given .1)) ∙ c .before .before .before .before .before .before .before .check-steps .ensures) (c .before .before .tell-refusal .ensures) in
-    (t .result, t .places)
+    told-case answerOf ofOne (c .before .before .before .before .before .e .given .1) (c .before .before .before .before .before .before .before .check-steps .ensures) (c .before .before .tell-refusal .ensures)
 
 pub drum-check-steps-spec : {M : Type 1} → statement M
 drum-check-steps-spec =

@@ -1,9 +1,8 @@
 -- The job, told. Assumes nothing.
 use borrow.Author.Needs.{needs}
-use mathlib.Core.Path.{sym, ap, _∙_}
 use Rattle.scenario.specs.Scenario.{answerOf}
 use Rattle.drum.specs.Numbers.{numbers, ofFour}
-use Rattle.drum.proofs.Telling.{tells}
+use Rattle.drum.proofs.Telling.{told-case}
 use Rattle.drum.proofs.drum_read_scenario.Statement.{statement}
 use Rattle.drum.proofs.drum_read_scenario.Tie as tie
 
@@ -11,15 +10,15 @@ returns : tie.Need-returns
 unfolding numbers ofFour
 returns c =
     let j = c .before .before .before .before .before .before .before .before .before .before .before .before .before .read-scenario .ensures in
-    let t = tells ofFour (ap answerOf (sym (c .before .before .before .before .before .tree-bytes .given .1)) ∙ j .0) (c .before .before .tell .ensures) in
-    (t .result, (t .places, j .1))
+    let t = told-case answerOf ofFour (c .before .before .before .before .before .tree-bytes .given .1) (j .0) (c .before .before .tell .ensures) in
+    (t .0, (t .1, j .1))
 
 returns-2 : tie.Need-returns-2
 unfolding numbers
 returns-2 c =
     let j = c .before .before .before .before .before .before .before .before .before .before .before .before .before .read-scenario .ensures in
-    let t = tells ofFour (ap answerOf (sym (c .before .before .before .before .before .e .given .1)) ∙ j .0) (c .before .before .tell-refusal .ensures) in
-    (t .result, (t .places, j .1))
+    let t = told-case answerOf ofFour (c .before .before .before .before .before .e .given .1) (j .0) (c .before .before .tell-refusal .ensures) in
+    (t .0, (t .1, j .1))
 
 pub drum-read-scenario-spec : {M : Type 1} → statement M
 drum-read-scenario-spec =

@@ -1,23 +1,20 @@
 -- The job, told. Assumes nothing.
 use borrow.Author.Needs.{needs}
-use mathlib.Core.Path.{sym, ap, _∙_}
 use Rattle.lookups.specs.Lookups.{timesOf}
 use Rattle.drum.specs.Numbers.{numbers, ofOne}
-use Rattle.drum.proofs.Telling.{tells}
+use Rattle.drum.proofs.Telling.{told-case}
 use Rattle.drum.proofs.drum_times.Statement.{statement}
 use Rattle.drum.proofs.drum_times.Tie as tie
 
 returns : tie.Need-returns
 unfolding numbers ofOne
 returns c =
-    let t = tells ofOne (ap timesOf (sym (c .before .before .before .before .before .n .given .1)) ∙ c .before .before .before .before .before .before .before .times .ensures) (c .before .before .tell .ensures) in
-    (t .result, t .places)
+    told-case timesOf ofOne (c .before .before .before .before .before .n .given .1) (c .before .before .before .before .before .before .before .times .ensures) (c .before .before .tell .ensures)
 
 returns-2 : tie.Need-returns-2
 unfolding numbers
 returns-2 c =
-    let t = tells ofOne (ap timesOf (sym (c .before .before .before .before .before .e .given .1)) ∙ c .before .before .before .before .before .before .before .times .ensures) (c .before .before .tell-refusal .ensures) in
-    (t .result, t .places)
+    told-case timesOf ofOne (c .before .before .before .before .before .e .given .1) (c .before .before .before .before .before .before .before .times .ensures) (c .before .before .tell-refusal .ensures)
 
 pub drum-times-spec : {M : Type 1} → statement M
 drum-times-spec =

@@ -1,14 +1,12 @@
 -- The job, told. Assumes nothing.
 use borrow.Author.Needs.{needs}
 use Rattle.drum.specs.Numbers.{ofFound}
-use Rattle.drum.proofs.Telling.{tells}
+use Rattle.drum.proofs.Telling.{told-as}
 use Rattle.drum.proofs.drum_value_by_key.Statement.{statement}
 use Rattle.drum.proofs.drum_value_by_key.Tie as tie
 
 returns : tie.Need-returns
-returns c =
-    let t = tells ofFound (c .before .before .before .value-by-key .ensures) (c .before .before .tell-lookup .ensures) in
-    (t .result, t .places)
+returns c = told-as ofFound (c .before .before .before .value-by-key .ensures) (c .before .before .tell-lookup .ensures)
 
 pub drum-value-by-key-spec : {M : Type 1} → statement M
 drum-value-by-key-spec =
