@@ -33,7 +33,7 @@ use Rattle.flow.specs.declared.PairRead.the-variants.{Done as Took, Refu
 use Rattle.flow.specs.declared.End.{End}
 use Rattle.flow.specs.declared.End.the-variants.{Closed, Refused as Halted}
 use Rattle.flow.specs.Flow.{stuck, items, entries, fresh, value}
-use Rattle.flow.specs.Contract.{separates, skipSeparators, sequenceOf, entriesOf, mappingOf, entryOf, WrotePair, AgreesPair, endOf, ClosedBy, ReadsEntries}
+use Rattle.flow.specs.Contract.{separates, skipSeparators, sequenceOf, flowEntries, mappingOf, entryOf, WrotePair, AgreesPair, endOf, ClosedBy, AgreesEntries}
 use Rattle.flow.proofs.Progress.{Takes, first, value-takes, items-none, items-enough, entries-none, entries-enough, first-snoc, turn-less}
 use Rattle.flow.proofs.Cases.{comma-off, items-skip, items-close, items-stuck, items-item, entries-skip, entries-close, entries-entry}
 
@@ -327,7 +327,7 @@ judged-on cap n es k v x = go (keyTwice es) (hasKey k es) ∙ ap (λ (b : Bool).
 -- the entries so far: if no key stands twice, the definition goes on from their end as from the start
 pub record Mapped (s : List ℕ) (start levels n : ℕ) (old : List ℕ) (at : ℕ) (out : List ℕ) (i p : ℕ) : Type 0 where
   pub got : Entries
-  pub same : entriesOf (length old) n levels at (drop start s)
+  pub same : flowEntries (length old) n levels at (drop start s)
       ≡ (if keyTwice got then refused 18 n 0 else entries (length old) n (value (length old) n levels true) (suc (length (drop i s))) got p (drop i s))
   pub bytes : out ≡ sets old at (encode got)
   pub used : p ≡ at + length (encode got)
@@ -336,7 +336,7 @@ pub record Mapped (s : List ℕ) (start levels n : ℕ) (old : List ℕ) (at : �
   pub within : i ≤ length s
 
 pub mapped-start : (s : List ℕ) (start levels n : ℕ) (old : List ℕ) (at : ℕ) → at ≤ length old → start ≤ length s → Mapped s start levels n old at old start at
-unfolding encode entriesOf keyTwice if_then_else_
+unfolding encode flowEntries keyTwice if_then_else_
 mapped-start s start levels n old at r w =
     record { got = done; same = refl; bytes = refl; used = omega arith; kept = refl; room = r; within = w }
 
@@ -348,13 +348,13 @@ module _ (s : List ℕ) (start levels n : ℕ) (old : List ℕ) (at : ℕ) (out 
   minside = value mcap n levels true
 
   abbrev told : End → List ℕ → Type 0
-  told e new = ReadsEntries (entriesOf mcap n levels at (drop start s)) n s old new at p e
+  told e new = AgreesEntries (flowEntries mcap n levels at (drop start s)) n s old new at p e
 
   mtakes : Takes mcap n minside
   mtakes = value-takes mcap n levels true
 
   judged : (x : Answer (Got Entries)) → entries mcap n minside (suc (length (drop i s))) (v .got) p (drop i s) ≡ x
-      → entriesOf mcap n levels at (drop start s) ≡ (if keyTwice (v .got) then refused 18 n 0 else x)
+      → flowEntries mcap n levels at (drop start s) ≡ (if keyTwice (v .got) then refused 18 n 0 else x)
   judged x e = v .same ∙ ap (λ (a : Answer (Got Entries)). if keyTwice (v .got) then refused 18 n 0 else a) e
 
   pub mapped-at : (j : ℕ) → drop j s ≡ skipSeparators (ltb at p) (drop i s) → j ≤ length s → Mapped s start levels n old at out j p
@@ -446,7 +446,7 @@ module _ (s : List ℕ) (start levels n : ℕ) (old : List ℕ) (at : ℕ) (out 
   entry-cap : AgreesPair (entryOf (length old) n (value (length old) n levels true) p (drop i s)) s out new i p r
   entry-cap = subst (λ (k : ℕ). AgreesPair (entryOf k n (value k n levels true) p (drop i s)) s out new i p r) (v .kept) w
 
-  pub map-stops : (z : Refusal) → r ≡ Stopped z → length new ≡ length out → ReadsEntries (entriesOf (length old) n levels at (drop start s)) n s old new at p (Halted z)
+  pub map-stops : (z : Refusal) → r ≡ Stopped z → length new ≡ length out → AgreesEntries (flowEntries (length old) n levels at (drop start s)) n s old new at p (Halted z)
   map-stops z q l =
       map-refused s start levels n old at out i p v h sep c new z l
       (subst (AgreesPair (entryOf (length old) n (value (length old) n levels true) p (drop i s)) s out new i p) q entry-cap)
@@ -461,7 +461,7 @@ module _ (s : List ℕ) (start levels n : ℕ) (old : List ℕ) (at : ℕ) (out 
 -- ---- a mapping, once its entries are read and judged
 
 module _ (s : List ℕ) (start levels n : ℕ) (old : List ℕ) (at : ℕ) (out : List ℕ) (used : ℕ) (e : End)
-    (v : ReadsEntries (entriesOf (length old) n levels (at + 6) (drop start s)) n s old out (at + 6) used e)
+    (v : AgreesEntries (flowEntries (length old) n levels (at + 6) (drop start s)) n s old out (at + 6) used e)
     (found : Bool) (k : (es : Entries) → Lies out (at + 6) used es → found ≡ keyTwice es) where
   decided : found ≡ keyTwice (v .got)
   decided = k (v .got) (v .lies)

@@ -45,12 +45,12 @@ sequenceOf cap n levels at bs = do
   (ys, sum, rest) ← items cap n (λ r s b. value cap n levels true r s b) (suc (length bs)) end (at + 6) bs
   good (seq ys, sum, rest)
 
-unfoldable pub entriesOf : ℕ → ℕ → ℕ → ℕ → List ℕ → Answer (Got Entries)
-entriesOf cap n levels sum bs = entries cap n (λ r s b. value cap n levels true r s b) (suc (length bs)) done sum bs
+unfoldable pub flowEntries : ℕ → ℕ → ℕ → ℕ → List ℕ → Answer (Got Entries)
+flowEntries cap n levels sum bs = entries cap n (λ r s b. value cap n levels true r s b) (suc (length bs)) done sum bs
 
 unfoldable pub mappingOf : ℕ → ℕ → ℕ → ℕ → List ℕ → Answer (Got Yaml)
 mappingOf cap n levels at bs = do
-  (es, sum, rest) ← entriesOf cap n levels (at + 6) bs
+  (es, sum, rest) ← flowEntries cap n levels (at + 6) bs
   good (dict es, sum, rest)
 
 -- a key, a colon and a value
@@ -88,7 +88,7 @@ ClosedBy s old new at got (Closed next) = (next ≤ length s) × (new ≡ sets o
 ClosedBy s old new at got (Halted e) = Unit {0}
 
 -- 18: entries that are read and written from `at` up to `used`, on the line `n`; a key that stands twice among them comes before their end
-pub record ReadsEntries (answer : Answer (Got Entries)) (n : ℕ) (s old new : List ℕ) (at used : ℕ) (end : End) : Type 0 where
+pub record AgreesEntries (answer : Answer (Got Entries)) (n : ℕ) (s old new : List ℕ) (at used : ℕ) (end : End) : Type 0 where
   pub got : Entries
   pub is : answer ≡ (if keyTwice got then refused 18 n 0 else endOf s used got end)
   pub lies : Lies new at used got

@@ -13,8 +13,8 @@ ghost use Rattle.scalar.specs.Contract.{AgreesParsed};
 ghost use Rattle.flow.specs.Flow as definition;
 ghost use Rattle.flow.specs.Flow.{entryValue};
 ghost use Rattle.flow.specs.Contract as agree;
-ghost use Rattle.flow.specs.Contract.{skipSeparators, sequenceOf, entriesOf, mappingOf, entryOf};
-ghost use Rattle.flow.specs.Contract.{AgreesPair, ReadsEntries, AgreesWhole};
+ghost use Rattle.flow.specs.Contract.{skipSeparators, sequenceOf, flowEntries, mappingOf, entryOf};
+ghost use Rattle.flow.specs.Contract.{AgreesPair, AgreesEntries, AgreesWhole};
 ghost use Rattle.flow.specs.Ends.{EndsWithin, finishOf};
 use item::put_header;
 use refusal::Refusal;
@@ -207,7 +207,7 @@ fn entries(
     at: usize,
 ) -> EntriesRead
     requires { ⌜ (start ≤ length (now s)) × (length (now s) ≤ 65535) × (at ≤ length (now out)) × (length (now out) ≤ 2 ^ 20) ⌝ }
-    ensures { λ r. ⌜ ReadsEntries (entriesOf (length (now (out .entry))) line levels at (drop start (now (s .entry)))) line
+    ensures { λ r. ⌜ AgreesEntries (flowEntries (length (now (out .entry))) line levels at (drop start (now (s .entry)))) line
         (now (s .entry)) (now (out .entry)) (now (out .exit)) at (r .used) (r .end) ⌝ }
 {
     let mut i = start;
