@@ -75,8 +75,8 @@ fn clear(words: &mut [usize; 2048])
     }
 }
 
-// Whether a key of one class stands twice; the classes are the numbers up to `last`. Each search that finds nothing costs a walk: there
-// are at most sixteen.
+// Whether a key of one class stands twice; the classes are the numbers up to `last`. A search that finds nothing costs a walk, and so
+// there are few of them.
 fn class_repeats(
     s: &[u8],
     from: usize,
@@ -90,7 +90,7 @@ fn class_repeats(
     ensures { λ r. ⌜ ((es : Entries) → Lies (now (s .entry)) from to es → Tells (twiceIn (ofClass class last) es) r) ⌝ }
 {
     clear(seen);
-    let mut spare: usize = 16;
+    let mut spare: usize = 32;
     let mut at = from;
     while at < to {
         let pair = pair_at(s, at);
@@ -169,8 +169,13 @@ fn few_repeat(s: &[u8], from: usize, to: usize) -> bool
     false
 }
 
-// Whether more than so many items stand from `from` to `to`.
-fn has_more(s: &[u8], from: usize, to: usize, items: usize) -> bool {
+// Whether more than so many items stand from `from` to `to`; each has six bytes and more.
+fn has_more(s: &[u8], from: usize, to: usize, items: usize) -> bool
+    requires { ⌜ from ≤ to ⌝ }
+{
+    if (to - from) / 6 <= items {
+        return false;
+    }
     let item = nth_item(s, from, items);
     let Span::At { start, end: _ } = item else {
         return false;
@@ -178,28 +183,12 @@ fn has_more(s: &[u8], from: usize, to: usize, items: usize) -> bool {
     start < to
 }
 
-// As many classes as keep the bits of one from being crowded: three bits each of 4,369 keys fill a tenth.
-fn last_class(s: &[u8], from: usize, to: usize) -> usize
-    ensures { λ r. ⌜ r < 2 ^ 4 ⌝ }
-{
-    if !has_more(s, from, to, 8192) {
-        return 0;
-    }
-    if !has_more(s, from, to, 16384) {
-        return 1;
-    }
-    if !has_more(s, from, to, 65536) {
-        return 7;
-    }
-    15
-}
-
-// The words stand in this frame alone, which is gone before another mapping is read: depth costs none.
-fn many_repeat(s: &[u8], from: usize, to: usize) -> bool
-    requires { ⌜ (from ≤ to) × (to ≤ length (now s)) × (length (now s) ≤ 2 ^ 20) ⌝ }
+// The words stand in this frame alone, which is gone before another mapping is read, so that depth costs none. A function that is called
+// at one place only may be compiled into its caller, frame and all: this one is called at several.
+fn many_repeat(s: &[u8], from: usize, to: usize, last: usize) -> bool
+    requires { ⌜ (from ≤ to) × (to ≤ length (now s)) × (length (now s) ≤ 2 ^ 20) × (last < 2 ^ 4) ⌝ }
     ensures { λ r. ⌜ ((es : Entries) → Lies (now (s .entry)) from to es → r ≡ keyTwice es) ⌝ }
 {
-    let last = last_class(s, from, to);
     let mut words = [0usize; 2048];
     match filter_repeats(s, from, to, last, &mut words) {
         Filtered::Twice => true,
@@ -209,7 +198,7 @@ fn many_repeat(s: &[u8], from: usize, to: usize) -> bool
 }
 
 // Whether a key stands twice among the entries from `from` to `to`. Few are quickest compared with each other, and clearing the bits pays
-// from some 24 entries on.
+// from some 24 entries on. Of many, a class has some 4,096, lest its bits be crowded: three bits each of so many fill a tenth.
 pub fn repeats(s: &[u8], from: usize, to: usize) -> bool
     requires { ⌜ (from ≤ to) × (to ≤ length (now s)) × (length (now s) ≤ 2 ^ 20) ⌝ }
     ensures { λ r. ⌜ ((es : Entries) → Lies (now (s .entry)) from to es → r ≡ keyTwice es) ⌝ }
@@ -220,5 +209,14 @@ pub fn repeats(s: &[u8], from: usize, to: usize) -> bool
     if !has_more(s, from, to, 48) {
         return few_repeat(s, from, to);
     }
-    many_repeat(s, from, to)
+    if has_more(s, from, to, 65536) {
+        return many_repeat(s, from, to, 15);
+    }
+    if has_more(s, from, to, 16384) {
+        return many_repeat(s, from, to, 7);
+    }
+    if has_more(s, from, to, 8192) {
+        return many_repeat(s, from, to, 1);
+    }
+    many_repeat(s, from, to, 0)
 }

@@ -1,5 +1,5 @@
-// Whether a key stands twice among entries, whatever their keys are: some keys are put in order, each behind them is looked up there, and so
-// on with the next. So no keys cost the square of their number.
+// Whether a key stands twice among entries, whatever their keys are: the first keys are put in order, each key behind them is looked up
+// there, and so on with those behind.
 ghost use Prim.Native.Nat.{_≤_, _<_, _^_};
 ghost use mathlib.Core.Path.{_≡_};
 ghost use lib.ListN.{length};

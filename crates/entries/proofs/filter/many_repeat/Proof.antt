@@ -14,4 +14,4 @@ returns-2 c = λ es h. sym (subst (Tells _) (c .enum-told2 .given .1) (c .before
 pub many-repeat-spec : {M : Type 1} → statement M
 many-repeat-spec =
     tie.close
-    (tie.spec (λ c κs. search needs) (λ c κs. search needs) (λ c. search needs) (λ c. search needs) (λ c. search needs) (λ c κs. search needs) returns returns-2 (λ c. search needs))
+    (tie.spec (λ c κs. search needs) (λ c. search needs) (λ c. search needs) (λ c. search needs) (λ c κs. search needs) returns returns-2 (λ c. search needs))
