@@ -21,13 +21,13 @@ use Rattle.tree.proofs.ReadTree as ReadTree
 use Rattle.meaning.specs.Meaning.{Meaning}
 use Rattle.meaning.specs.Rules.{IsRecord}
 use Rattle.record.specs.Jobs.{Found, partOf}
-use Rattle.scenario.specs.Scenario.{Reading, scenarioOf}
+use Rattle.scenario.specs.Scenario.{Reading, scenarioOf, answerOf, sizesOf, output, treeBytes, recordBytes, stepNumbers}
 use Rattle.scenario.specs.Told.{textMeaning, ScenarioTold, ScenarioLeft, ScenarioEnds}
 use Rattle.scenario.specs.declared.ScenarioAnswer.{ScenarioAnswer}
 use Rattle.scenario.specs.declared.ScenarioAnswer.the-variants.{Read, Refused}
 use Rattle.scenario.proofs.Demand.{accepted-record}
 use Rattle.scenario.proofs.Lent.{Lacks, accepted-reading, refused-itself}
-use Rattle.scenario.proofs.ReadScenario.{Promised, ends, told-check, same-bytes-same-meaning, same-meaning-same-bytes}
+use Rattle.scenario.proofs.ReadScenario.{ends, told-check, same-bytes-same-meaning, same-meaning-same-bytes}
 use Rattle.demands.specs.declared.Compared.the-variants.{Same, Different}
 use Rattle.demands.specs.Demands.{TreeLeft, TreeEnds, lacks, TellsRefusal, Accepted, Compares, goodWith, isGood, nth, ItemShown, TextItem}
 
@@ -52,12 +52,22 @@ module _ (text work new : List ℕ) where
 
 -- ---- a scenario
 
-module _ (text work tree room bytes places lines : List ℕ) (r : ScenarioAnswer) (p : Promised text work tree room bytes places lines r) where
-  pub accepted-as : (t b l n : ℕ) → r ≡ Read t b l n → ScenarioTold text work tree room bytes places lines t b l n
-  accepted-as t b l n e = subst (ScenarioEnds text work tree room bytes places lines) e (ends text work tree room bytes places lines r p)
+-- what `read_scenario` ensures, clause by clause
+abbrev Ensured : (text work tree room bytes places lines : List ℕ) → ScenarioAnswer → Type 0
+Ensured text work tree room bytes places lines r =
+    (answerOf r ≡ sizesOf (scenarioOf work room places text))
+    × ((tree ≡ output treeBytes (scenarioOf work room places text) work)
+    × ((bytes ≡ output recordBytes (scenarioOf work room places text) room) × (lines ≡ output stepNumbers (scenarioOf work room places text) places)))
 
-  pub refused-as : (e : Refusal) → r ≡ Refused e → ScenarioLeft text work tree room bytes places lines e
-  refused-as e q = subst (ScenarioEnds text work tree room bytes places lines) q (ends text work tree room bytes places lines r p)
+module _ (text work room places : List ℕ) {tree bytes lines : List ℕ} (r : ScenarioAnswer) (p : Ensured text work tree room bytes places lines r) where
+  pub scenario-ends : ScenarioEnds text work tree room bytes places lines r
+  scenario-ends = ends text work tree room bytes places lines r (record { answer = p .0; tree-left = p .1 .0; record-left = p .1 .1 .0; lines-left = p .1 .1 .1 })
+
+  pub accepted-as : {t b l n : ℕ} → r ≡ Read t b l n → ScenarioTold text work tree room bytes places lines t b l n
+  accepted-as e = subst (ScenarioEnds text work tree room bytes places lines) e scenario-ends
+
+  pub refused-as : {e : Refusal} → r ≡ Refused e → ScenarioLeft text work tree room bytes places lines e
+  refused-as q = subst (ScenarioEnds text work tree room bytes places lines) q scenario-ends
 
 module _ {text work tree room bytes places lines : List ℕ} where
   pub tells-refusal : {e : Refusal} {t : Told} → ScenarioLeft text work tree room bytes places lines e → t ≡ toldOf e → TellsRefusal (scenarioOf work room places text) work tree room bytes places lines t

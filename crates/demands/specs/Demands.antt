@@ -90,7 +90,8 @@ abbrev pub stepItems : Meaning → List (List ℕ)
 stepItems m = map stepItem (m .steps)
 
 -- the bytes found by a number in any bytes, which is a field's place or a step's: the item of the meaning whose record they are
-pub record ItemShown (lookup : List ℕ → ℕ → Answer Found) (items : Meaning → List (List ℕ)) (b : List ℕ) (number : ℕ) (found : List ℕ) : Type 0 where
+pub record ItemShown (lookup : List ℕ → ℕ → Answer Found) (items : Meaning → List (List ℕ)) (b : List ℕ) (number : ℕ)
+    (found : List ℕ) : Type 0 where
   pub is : found ≡ shown b (lookup b number)
   pub item : (m : Meaning) → IsRecord b m → found ≡ nth (items m) number
 

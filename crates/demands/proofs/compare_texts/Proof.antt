@@ -12,7 +12,7 @@ slice-reshare-prefix-same-bytes c =
     let a = c .before .before .before .before .before .before .before .before .before .before .before .before .before .before .before .before .before .before .before .before .before .before .before .before .before .before .before .before .before .before .before .before .before .before .args in
     let r = c .before .before .before .before .before .before .before .before .before .before .before .before .before .before .before .before .before .before .before .before .before .before .read-scenario in
     let g = c .before .before .before .before .before .before .before .before .before .before .before .before .before .before .n .given in
-    let w = accepted-as (a .text .now) (a .work .now) _ (a .«record» .now) _ (a .lines .now) _ (r .result) (record { answer = r .ensures .0; tree-left = r .ensures .1 .0; record-left = r .ensures .1 .1 .0; lines-left = r .ensures .1 .1 .1 }) (g .0 .0) (g .0 .1 .0) (g .0 .1 .1 .0) (g .0 .1 .1 .1 .0) (g .1) in
+    let w = accepted-as (a .text .now) (a .work .now) (a .«record» .now) (a .lines .now) (r .result) (r .ensures) (g .1) in
     omega (arith, w .record-fits, r .kept .1 .1 .0)
 
 slice-aggregate-same-bytes : tie.Need-slice-aggregate-same-bytes
@@ -20,7 +20,7 @@ slice-aggregate-same-bytes c =
     let a = c .before .before .before .before .before .before .before .before .before .before .before .before .before .before .before .before .before .before .before .before .before .before .before .before .before .before .before .before .before .before .before .before .before .before .before .args in
     let r = c .before .before .before .before .before .before .before .before .before .before .before .before .before .before .before .before .before .before .before .before .before .before .before .read-scenario in
     let g = c .before .before .before .before .before .before .before .before .before .before .before .before .before .before .before .n .given in
-    let w = accepted-as (a .text .now) (a .work .now) _ (a .«record» .now) _ (a .lines .now) _ (r .result) (record { answer = r .ensures .0; tree-left = r .ensures .1 .0; record-left = r .ensures .1 .1 .0; lines-left = r .ensures .1 .1 .1 }) (g .0 .0) (g .0 .1 .0) (g .0 .1 .1 .0) (g .0 .1 .1 .1 .0) (g .1) in
+    let w = accepted-as (a .text .now) (a .work .now) (a .«record» .now) (a .lines .now) (r .result) (r .ensures) (g .1) in
     sym (length-take-le _ _ (omega (arith, w .record-fits, r .kept .1 .1 .0)))
 
 slice-reshare-prefix-same-bytes-2 : tie.Need-slice-reshare-prefix-same-bytes-2
@@ -28,7 +28,7 @@ slice-reshare-prefix-same-bytes-2 c =
     let a = c .before .before .before .before .before .before .before .before .before .before .before .before .before .before .before .before .before .before .before .before .before .before .before .before .before .before .before .before .before .before .before .before .before .before .before .args in
     let r = c .before .before .before .before .before .before .before .before .before .before .read-scenario2 in
     let g = c .before .before .m .given in
-    let w = accepted-as (a .other .now) (a .other-work .now) _ (a .other-record .now) _ (a .other-lines .now) _ (r .result) (record { answer = r .ensures .0; tree-left = r .ensures .1 .0; record-left = r .ensures .1 .1 .0; lines-left = r .ensures .1 .1 .1 }) (g .0 .0) (g .0 .1 .0) (g .0 .1 .1 .0) (g .0 .1 .1 .1 .0) (g .1) in
+    let w = accepted-as (a .other .now) (a .other-work .now) (a .other-record .now) (a .other-lines .now) (r .result) (r .ensures) (g .1) in
     omega (arith, w .record-fits, r .kept .1 .1 .0)
 
 slice-aggregate-same-bytes-2 : tie.Need-slice-aggregate-same-bytes-2
@@ -36,7 +36,7 @@ slice-aggregate-same-bytes-2 c =
     let a = c .before .before .before .before .before .before .before .before .before .before .before .before .before .before .before .before .before .before .before .before .before .before .before .before .before .before .before .before .before .before .before .before .before .before .before .before .args in
     let r = c .before .before .before .before .before .before .before .before .before .before .before .read-scenario2 in
     let g = c .before .before .before .m .given in
-    let w = accepted-as (a .other .now) (a .other-work .now) _ (a .other-record .now) _ (a .other-lines .now) _ (r .result) (record { answer = r .ensures .0; tree-left = r .ensures .1 .0; record-left = r .ensures .1 .1 .0; lines-left = r .ensures .1 .1 .1 }) (g .0 .0) (g .0 .1 .0) (g .0 .1 .1 .0) (g .0 .1 .1 .1 .0) (g .1) in
+    let w = accepted-as (a .other .now) (a .other-work .now) (a .other-record .now) (a .other-lines .now) (r .result) (r .ensures) (g .1) in
     sym (length-take-le _ _ (omega (arith, w .record-fits, r .kept .1 .1 .0)))
 
 returns : tie.Need-returns
@@ -46,8 +46,8 @@ returns c =
     let r′ = c .before .before .before .before .before .before .before .before .before .before .before .before .before .read-scenario2 in
     let g = c .before .before .before .before .before .before .before .before .before .before .before .before .before .before .before .before .before .before .n .given in
     let g′ = c .before .before .before .before .before .m .given in
-    let w = accepted-as (a .text .now) (a .work .now) _ (a .«record» .now) _ (a .lines .now) _ (r .result) (record { answer = r .ensures .0; tree-left = r .ensures .1 .0; record-left = r .ensures .1 .1 .0; lines-left = r .ensures .1 .1 .1 }) (g .0 .0) (g .0 .1 .0) (g .0 .1 .1 .0) (g .0 .1 .1 .1 .0) (g .1) in
-    let w′ = accepted-as (a .other .now) (a .other-work .now) _ (a .other-record .now) _ (a .other-lines .now) _ (r′ .result) (record { answer = r′ .ensures .0; tree-left = r′ .ensures .1 .0; record-left = r′ .ensures .1 .1 .0; lines-left = r′ .ensures .1 .1 .1 }) (g′ .0 .0) (g′ .0 .1 .0) (g′ .0 .1 .1 .0) (g′ .0 .1 .1 .1 .0) (g′ .1) in
+    let w = accepted-as (a .text .now) (a .work .now) (a .«record» .now) (a .lines .now) (r .result) (r .ensures) (g .1) in
+    let w′ = accepted-as (a .other .now) (a .other-work .now) (a .other-record .now) (a .other-lines .now) (r′ .result) (r′ .ensures) (g′ .1) in
     compared-same w w′ (sym (c .before .same-bytes .ensures) ∙ c .if1 .taken)
 
 returns-2 : tie.Need-returns-2
@@ -55,7 +55,7 @@ returns-2 c =
     let a = c .before .before .before .before .before .before .before .before .before .before .before .before .before .before .before .before .before .before .before .before .args in
     let r = c .before .before .before .before .before .before .before .before .read-scenario in
     let g = c .enum-told .given in
-    let w = refused-as (a .text .now) (a .work .now) _ (a .«record» .now) _ (a .lines .now) _ (r .result) (record { answer = r .ensures .0; tree-left = r .ensures .1 .0; record-left = r .ensures .1 .1 .0; lines-left = r .ensures .1 .1 .1 }) (g .0 .0) (g .1) in
+    let w = refused-as (a .text .now) (a .work .now) (a .«record» .now) (a .lines .now) (r .result) (r .ensures) (g .1) in
     first-refused w _
 
 returns-3 : tie.Need-returns-3
@@ -63,7 +63,7 @@ returns-3 c =
     let a = c .before .before .before .before .before .before .before .before .before .before .before .before .before .before .before .before .before .before .before .before .before .before .before .before .before .before .before .before .before .before .before .before .before .args in
     let r = c .before .before .before .before .before .before .before .before .read-scenario2 in
     let g = c .enum-told2 .given in
-    let w = refused-as (a .other .now) (a .other-work .now) _ (a .other-record .now) _ (a .other-lines .now) _ (r .result) (record { answer = r .ensures .0; tree-left = r .ensures .1 .0; record-left = r .ensures .1 .1 .0; lines-left = r .ensures .1 .1 .1 }) (g .0 .0) (g .1) in
+    let w = refused-as (a .other .now) (a .other-work .now) (a .other-record .now) (a .other-lines .now) (r .result) (r .ensures) (g .1) in
     second-refused w _
 
 returns-4 : tie.Need-returns-4
@@ -73,8 +73,8 @@ returns-4 c =
     let r′ = c .before .before .before .before .before .before .before .before .before .before .before .before .before .read-scenario2 in
     let g = c .before .before .before .before .before .before .before .before .before .before .before .before .before .before .before .before .before .before .n .given in
     let g′ = c .before .before .before .before .before .m .given in
-    let w = accepted-as (a .text .now) (a .work .now) _ (a .«record» .now) _ (a .lines .now) _ (r .result) (record { answer = r .ensures .0; tree-left = r .ensures .1 .0; record-left = r .ensures .1 .1 .0; lines-left = r .ensures .1 .1 .1 }) (g .0 .0) (g .0 .1 .0) (g .0 .1 .1 .0) (g .0 .1 .1 .1 .0) (g .1) in
-    let w′ = accepted-as (a .other .now) (a .other-work .now) _ (a .other-record .now) _ (a .other-lines .now) _ (r′ .result) (record { answer = r′ .ensures .0; tree-left = r′ .ensures .1 .0; record-left = r′ .ensures .1 .1 .0; lines-left = r′ .ensures .1 .1 .1 }) (g′ .0 .0) (g′ .0 .1 .0) (g′ .0 .1 .1 .0) (g′ .0 .1 .1 .1 .0) (g′ .1) in
+    let w = accepted-as (a .text .now) (a .work .now) (a .«record» .now) (a .lines .now) (r .result) (r .ensures) (g .1) in
+    let w′ = accepted-as (a .other .now) (a .other-work .now) (a .other-record .now) (a .other-lines .now) (r′ .result) (r′ .ensures) (g′ .1) in
     compared-different w w′ (sym (c .before .same-bytes .ensures) ∙ c .if1 .left)
 
 pub compare-texts-spec : {M : Type 1} → statement M

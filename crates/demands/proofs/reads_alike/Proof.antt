@@ -12,7 +12,7 @@ slice-reshare-prefix-same-bytes c =
     let a = c .before .before .before .before .before .before .before .before .before .before .before .before .before .before .before .before .before .before .before .before .before .before .before .before .before .before .before .before .before .before .before .before .before .args in
     let r = c .before .before .before .before .before .before .before .before .before .before .before .before .before .before .before .before .before .before .before .before .before .before .read-scenario in
     let g = c .before .before .before .before .before .before .before .before .before .before .before .before .before .before .n .given in
-    let w = accepted-as (a .text .now) (a .work .now) _ (a .«record» .now) _ (a .lines .now) _ (r .result) (record { answer = r .ensures .0; tree-left = r .ensures .1 .0; record-left = r .ensures .1 .1 .0; lines-left = r .ensures .1 .1 .1 }) (g .0 .0) (g .0 .1 .0) (g .0 .1 .1 .0) (g .0 .1 .1 .1 .0) (g .1) in
+    let w = accepted-as (a .text .now) (a .work .now) (a .«record» .now) (a .lines .now) (r .result) (r .ensures) (g .1) in
     omega (arith, w .record-fits, r .kept .1 .1 .0)
 
 slice-aggregate-same-bytes : tie.Need-slice-aggregate-same-bytes
@@ -20,7 +20,7 @@ slice-aggregate-same-bytes c =
     let a = c .before .before .before .before .before .before .before .before .before .before .before .before .before .before .before .before .before .before .before .before .before .before .before .before .before .before .before .before .before .before .before .before .before .before .args in
     let r = c .before .before .before .before .before .before .before .before .before .before .before .before .before .before .before .before .before .before .before .before .before .before .before .read-scenario in
     let g = c .before .before .before .before .before .before .before .before .before .before .before .before .before .before .before .n .given in
-    let w = accepted-as (a .text .now) (a .work .now) _ (a .«record» .now) _ (a .lines .now) _ (r .result) (record { answer = r .ensures .0; tree-left = r .ensures .1 .0; record-left = r .ensures .1 .1 .0; lines-left = r .ensures .1 .1 .1 }) (g .0 .0) (g .0 .1 .0) (g .0 .1 .1 .0) (g .0 .1 .1 .1 .0) (g .1) in
+    let w = accepted-as (a .text .now) (a .work .now) (a .«record» .now) (a .lines .now) (r .result) (r .ensures) (g .1) in
     sym (length-take-le _ _ (omega (arith, w .record-fits, r .kept .1 .1 .0)))
 
 slice-reshare-prefix-same-bytes-2 : tie.Need-slice-reshare-prefix-same-bytes-2
@@ -28,7 +28,7 @@ slice-reshare-prefix-same-bytes-2 c =
     let a = c .before .before .before .before .before .before .before .before .before .before .before .before .before .before .before .before .before .before .before .before .before .before .before .before .before .before .before .before .before .before .before .before .before .before .args in
     let r = c .before .before .before .before .before .before .before .before .before .before .read-scenario2 in
     let g = c .before .before .m .given in
-    let w = accepted-as (a .text .now) (a .other-work .now) _ (a .other-record .now) _ (a .other-lines .now) _ (r .result) (record { answer = r .ensures .0; tree-left = r .ensures .1 .0; record-left = r .ensures .1 .1 .0; lines-left = r .ensures .1 .1 .1 }) (g .0 .0) (g .0 .1 .0) (g .0 .1 .1 .0) (g .0 .1 .1 .1 .0) (g .1) in
+    let w = accepted-as (a .text .now) (a .other-work .now) (a .other-record .now) (a .other-lines .now) (r .result) (r .ensures) (g .1) in
     omega (arith, w .record-fits, r .kept .1 .1 .0)
 
 slice-aggregate-same-bytes-2 : tie.Need-slice-aggregate-same-bytes-2
@@ -36,7 +36,7 @@ slice-aggregate-same-bytes-2 c =
     let a = c .before .before .before .before .before .before .before .before .before .before .before .before .before .before .before .before .before .before .before .before .before .before .before .before .before .before .before .before .before .before .before .before .before .before .before .args in
     let r = c .before .before .before .before .before .before .before .before .before .before .before .read-scenario2 in
     let g = c .before .before .before .m .given in
-    let w = accepted-as (a .text .now) (a .other-work .now) _ (a .other-record .now) _ (a .other-lines .now) _ (r .result) (record { answer = r .ensures .0; tree-left = r .ensures .1 .0; record-left = r .ensures .1 .1 .0; lines-left = r .ensures .1 .1 .1 }) (g .0 .0) (g .0 .1 .0) (g .0 .1 .1 .0) (g .0 .1 .1 .1 .0) (g .1) in
+    let w = accepted-as (a .text .now) (a .other-work .now) (a .other-record .now) (a .other-lines .now) (r .result) (r .ensures) (g .1) in
     sym (length-take-le _ _ (omega (arith, w .record-fits, r .kept .1 .1 .0)))
 
 returns-2 : tie.Need-returns-2
@@ -44,10 +44,10 @@ returns-2 c =
     let a = c .before .before .before .before .before .before .before .before .before .before .before .before .before .before .before .before .before .before .before .before .before .before .before .before .before .before .before .before .before .before .before .before .before .before .args in
     let r = c .before .before .before .before .before .before .before .before .before .before .before .before .before .before .before .before .before .before .before .before .before .before .before .read-scenario in
     let g = c .before .before .before .before .before .before .before .before .before .before .before .before .before .before .before .n .given in
-    let w = accepted-as (a .text .now) (a .work .now) _ (a .«record» .now) _ (a .lines .now) _ (r .result) (record { answer = r .ensures .0; tree-left = r .ensures .1 .0; record-left = r .ensures .1 .1 .0; lines-left = r .ensures .1 .1 .1 }) (g .0 .0) (g .0 .1 .0) (g .0 .1 .1 .0) (g .0 .1 .1 .1 .0) (g .1) in
+    let w = accepted-as (a .text .now) (a .work .now) (a .«record» .now) (a .lines .now) (r .result) (r .ensures) (g .1) in
     let r′ = c .before .before .before .before .before .before .before .before .before .before .read-scenario2 in
     let g′ = c .before .before .e .given in
-    let w′ = refused-as (a .text .now) (a .other-work .now) _ (a .other-record .now) _ (a .other-lines .now) _ (r′ .result) (record { answer = r′ .ensures .0; tree-left = r′ .ensures .1 .0; record-left = r′ .ensures .1 .1 .0; lines-left = r′ .ensures .1 .1 .1 }) (g′ .0 .0) (g′ .1) in
+    let w′ = refused-as (a .text .now) (a .other-work .now) (a .other-record .now) (a .other-lines .now) (r′ .result) (r′ .ensures) (g′ .1) in
     c .is-lack .ensures ∙ only-lacks w w′
 
 returns-3 : tie.Need-returns-3
@@ -55,10 +55,10 @@ returns-3 c =
     let a = c .before .before .before .before .before .before .before .before .before .before .before .before .before .before .before .before .before .before .before .before .before .before .before .before .before .before .before .before .before .before .before .before .before .before .before .before .args in
     let r = c .before .before .before .before .before .before .before .before .before .before .before .before .before .before .before .before .before .before .before .before .before .before .before .before .before .read-scenario in
     let g = c .before .before .before .before .before .before .before .before .before .before .before .before .before .before .before .before .before .n .given in
-    let w = accepted-as (a .text .now) (a .work .now) _ (a .«record» .now) _ (a .lines .now) _ (r .result) (record { answer = r .ensures .0; tree-left = r .ensures .1 .0; record-left = r .ensures .1 .1 .0; lines-left = r .ensures .1 .1 .1 }) (g .0 .0) (g .0 .1 .0) (g .0 .1 .1 .0) (g .0 .1 .1 .1 .0) (g .1) in
+    let w = accepted-as (a .text .now) (a .work .now) (a .«record» .now) (a .lines .now) (r .result) (r .ensures) (g .1) in
     let r′ = c .before .before .before .before .before .before .before .before .before .before .before .before .read-scenario2 in
     let g′ = c .before .before .before .before .m .given in
-    let w′ = accepted-as (a .text .now) (a .other-work .now) _ (a .other-record .now) _ (a .other-lines .now) _ (r′ .result) (record { answer = r′ .ensures .0; tree-left = r′ .ensures .1 .0; record-left = r′ .ensures .1 .1 .0; lines-left = r′ .ensures .1 .1 .1 }) (g′ .0 .0) (g′ .0 .1 .0) (g′ .0 .1 .1 .0) (g′ .0 .1 .1 .1 .0) (g′ .1) in
+    let w′ = accepted-as (a .text .now) (a .other-work .now) (a .other-record .now) (a .other-lines .now) (r′ .result) (r′ .ensures) (g′ .1) in
     c .same-bytes .ensures ∙ alike-bytes w w′
 
 pub reads-alike-spec : {M : Type 1} → statement M

@@ -12,7 +12,7 @@ slice-reshare-prefix-is-good c =
     let a = c .before .before .before .before .before .before .before .before .before .before .before .before .before .before .before .before .before .args in
     let r = c .before .before .before .before .before .before .before .before .before .read-scenario in
     let g = c .before .record-bytes .given in
-    let w = accepted-as (a .text .now) (a .work .now) _ (a .«record» .now) _ (a .lines .now) _ (r .result) (record { answer = r .ensures .0; tree-left = r .ensures .1 .0; record-left = r .ensures .1 .1 .0; lines-left = r .ensures .1 .1 .1 }) (g .0 .0) (g .0 .1 .0) (g .0 .1 .1 .0) (g .0 .1 .1 .1 .0) (g .1) in
+    let w = accepted-as (a .text .now) (a .work .now) (a .«record» .now) (a .lines .now) (r .result) (r .ensures) (g .1) in
     omega (arith, w .record-fits, r .kept .1 .1 .0)
 
 slice-aggregate-is-good : tie.Need-slice-aggregate-is-good
@@ -20,7 +20,7 @@ slice-aggregate-is-good c =
     let a = c .before .before .before .before .before .before .before .before .before .before .before .before .before .before .before .before .before .before .args in
     let r = c .before .before .before .before .before .before .before .before .before .before .read-scenario in
     let g = c .before .before .record-bytes .given in
-    let w = accepted-as (a .text .now) (a .work .now) _ (a .«record» .now) _ (a .lines .now) _ (r .result) (record { answer = r .ensures .0; tree-left = r .ensures .1 .0; record-left = r .ensures .1 .1 .0; lines-left = r .ensures .1 .1 .1 }) (g .0 .0) (g .0 .1 .0) (g .0 .1 .1 .0) (g .0 .1 .1 .1 .0) (g .1) in
+    let w = accepted-as (a .text .now) (a .work .now) (a .«record» .now) (a .lines .now) (r .result) (r .ensures) (g .1) in
     sym (length-take-le _ _ (omega (arith, w .record-fits, r .kept .1 .1 .0)))
 
 returns-2 : tie.Need-returns-2
@@ -28,7 +28,7 @@ returns-2 c =
     let a = c .before .before .before .before .before .before .before .before .before .before .before .before .before .before .before .before .before .before .before .args in
     let r = c .before .before .before .before .before .before .before .before .before .before .before .read-scenario in
     let g = c .before .before .before .record-bytes .given in
-    let w = accepted-as (a .text .now) (a .work .now) _ (a .«record» .now) _ (a .lines .now) _ (r .result) (record { answer = r .ensures .0; tree-left = r .ensures .1 .0; record-left = r .ensures .1 .1 .0; lines-left = r .ensures .1 .1 .1 }) (g .0 .0) (g .0 .1 .0) (g .0 .1 .1 .0) (g .0 .1 .1 .1 .0) (g .1) in
+    let w = accepted-as (a .text .now) (a .work .now) (a .«record» .now) (a .lines .now) (r .result) (r .ensures) (g .1) in
     c .is-good .ensures ∙ told-good w
 
 pub reads-good-records-spec : {M : Type 1} → statement M

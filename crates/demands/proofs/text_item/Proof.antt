@@ -13,7 +13,7 @@ slice-aggregate-item-of c =
     let a = c .before .before .before .before .before .before .before .before .before .before .before .before .before .before .before .before .before .before .before .args in
     let r = c .before .before .before .before .before .before .before .before .before .before .before .read-scenario in
     let g = c .before .before .before .record-bytes .given in
-    let w = accepted-as (a .text .now) (a .work .now) _ (a .«record» .now) _ (a .lines .now) _ (r .result) (record { answer = r .ensures .0; tree-left = r .ensures .1 .0; record-left = r .ensures .1 .1 .0; lines-left = r .ensures .1 .1 .1 }) (g .0 .0) (g .0 .1 .0) (g .0 .1 .1 .0) (g .0 .1 .1 .1 .0) (g .1) in
+    let w = accepted-as (a .text .now) (a .work .now) (a .«record» .now) (a .lines .now) (r .result) (r .ensures) (g .1) in
     sym (length-take-le _ _ (omega (arith, w .record-fits, r .kept .1 .1 .0)))
 
 returns : tie.Need-returns
@@ -21,7 +21,7 @@ returns c =
     let a = c .before .before .before .before .before .before .before .before .before .before .before .before .before .before .before .before .before .before .args in
     let r = c .before .before .before .before .before .before .before .before .before .before .read-scenario in
     let g = c .before .before .enum-told .given in
-    let w = refused-as (a .text .now) (a .work .now) _ (a .«record» .now) _ (a .lines .now) _ (r .result) (record { answer = r .ensures .0; tree-left = r .ensures .1 .0; record-left = r .ensures .1 .1 .0; lines-left = r .ensures .1 .1 .1 }) (g .0 .0) (g .1) in
+    let w = refused-as (a .text .now) (a .work .now) (a .«record» .now) (a .lines .now) (r .result) (r .ensures) (g .1) in
     text-nothing w (items (a .by)) (a .number) _ (c .part .ensures ∙ no-part _)
 
 returns-2 : tie.Need-returns-2
@@ -29,7 +29,7 @@ returns-2 c =
     let a = c .before .before .before .before .before .before .before .before .before .before .before .before .before .before .before .before .before .before .before .before .args in
     let r = c .before .before .before .before .before .before .before .before .before .before .before .before .read-scenario in
     let g = c .before .before .before .before .record-bytes .given in
-    let w = accepted-as (a .text .now) (a .work .now) _ (a .«record» .now) _ (a .lines .now) _ (r .result) (record { answer = r .ensures .0; tree-left = r .ensures .1 .0; record-left = r .ensures .1 .1 .0; lines-left = r .ensures .1 .1 .1 }) (g .0 .0) (g .0 .1 .0) (g .0 .1 .1 .0) (g .0 .1 .1 .1 .0) (g .1) in
+    let w = accepted-as (a .text .now) (a .work .now) (a .«record» .now) (a .lines .now) (r .result) (r .ensures) (g .1) in
     text-item w (c .item-of .ensures)
 
 pub text-item-spec : {M : Type 1} → statement M

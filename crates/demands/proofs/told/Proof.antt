@@ -9,7 +9,7 @@ returns c =
     let a = c .before .before .before .before .before .before .before .before .before .before .before .before .before .before .before .before .before .before .args in
     let r = c .before .before .before .before .before .before .before .before .before .before .read-scenario in
     let g = c .before .before .e .given in
-    let w = refused-as (a .text .now) (a .work .now) _ (a .«record» .now) _ (a .lines .now) _ (r .result) (record { answer = r .ensures .0; tree-left = r .ensures .1 .0; record-left = r .ensures .1 .1 .0; lines-left = r .ensures .1 .1 .1 }) (g .0 .0) (g .1) in
+    let w = refused-as (a .text .now) (a .work .now) (a .«record» .now) (a .lines .now) (r .result) (r .ensures) (g .1) in
     tells-refusal w (c .told .ensures)
 
 returns-2 : tie.Need-returns-2
@@ -17,7 +17,7 @@ returns-2 c =
     let a = c .before .before .before .before .before .before .before .before .before .before .before .before .before .before .before .before .args in
     let r = c .before .before .before .before .before .before .before .before .read-scenario in
     let g = c .enum-told .given in
-    let w = accepted-as (a .text .now) (a .work .now) _ (a .«record» .now) _ (a .lines .now) _ (r .result) (record { answer = r .ensures .0; tree-left = r .ensures .1 .0; record-left = r .ensures .1 .1 .0; lines-left = r .ensures .1 .1 .1 }) (g .0 .0) (g .0 .1 .0) (g .0 .1 .1 .0) (g .0 .1 .1 .1 .0) (g .1) in
+    let w = accepted-as (a .text .now) (a .work .now) (a .«record» .now) (a .lines .now) (r .result) (r .ensures) (g .1) in
     tells-nothing w
 
 pub told-spec : {M : Type 1} → statement M
