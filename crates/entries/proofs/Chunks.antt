@@ -10,7 +10,7 @@ use Rattle.refusal.specs.Base.{same}
 use Rattle.item.specs.Tree.{Yaml, Entries, done, pair, hasKey}
 use Rattle.item.proofs.Same.{same-refl, same-eq}
 use Rattle.entries.specs.Entries.{Lies, keyTwice}
-use Rattle.entries.specs.Contract.{keyOf, Held, Gap, Inserted, Judged}
+use Rattle.entries.specs.Contract.{keyOf, Held, Gap, Inserted, LeftOver}
 use Rattle.entries.proofs.Walking.{Turn, no-more}
 use Rattle.entries.proofs.Twice.{no, either, or-left, or-right}
 use Rattle.entries.proofs.Runs.{each-on, held-here, held-on, not-held}
@@ -77,7 +77,7 @@ chunked-none run es h = record {
 }
 
 module _ {s run : List ℕ} {n to behind at : ℕ} {es : Entries} (w : Chunked s run n to behind at es) where
-  pub chunked-all : to ≤ at → Judged s to behind es
+  pub chunked-all : to ≤ at → LeftOver s to behind es
   chunked-all h = record {
     rest = w .others;
     lies = w .others-lie;

@@ -9,7 +9,7 @@ use lib.Dec.{ltb}
 use lib.ListN.{length, take, drop, getD, set, length-set}
 use lib.Seq.{getD-set-same, getD-set-other}
 use borrow.Author.Tests.{ltb-true, ltb-false}
-use Rattle.entries.specs.Contract.{Below, keyOf, Inside, Run, Held, Gap, Inserted}
+use Rattle.entries.specs.Contract.{Below, keyOf, WordInside, Run, Held, Gap, Inserted}
 use Rattle.entries.proofs.Order.{below-self, below-through}
 
 split : (i j : ℕ) → (i < j) ⊎ (j ≤ i)
@@ -95,7 +95,7 @@ word-key s start stop h =
     let b : (start * 2 ^ 21 + stop) % 2 ^ 21 ≡ stop = omega arith in
     rw (a, b)
 
-pub word-inside : (s : List ℕ) (start stop : ℕ) → stop < 2 ^ 21 → start ≤ stop → stop ≤ length s → Inside s (start * 2 ^ 21 + stop)
+pub word-inside : (s : List ℕ) (start stop : ℕ) → stop < 2 ^ 21 → start ≤ stop → stop ≤ length s → WordInside s (start * 2 ^ 21 + stop)
 word-inside s start stop h g l = record { order = omega arith; within = omega arith }
 
 module _ {old new : List ℕ} {n place word : ℕ} (p : Inserted old new n place word) (fits : place ≤ n) where
@@ -127,11 +127,11 @@ module _ {old new : List ℕ} {n place word : ℕ} (p : Inserted old new n place
       (λ l. record { index = h .index + 1; below = omega (arith, h .below); is = ap (keyOf s) (p .behind (h .index) l (h .below)) ∙ h .is })
       (split (h .index) place)
 
-  pub run-on : {s : List ℕ} → Run s old n → Gap s old n (keyOf s word) place → Inside s word → n < 2 ^ 11 → Run s new (n + 1)
+  pub run-on : {s : List ℕ} → Run s old n → Gap s old n (keyOf s word) place → WordInside s word → n < 2 ^ 11 → Run s new (n + 1)
   run-on {s} r g w m = record {
     size = p .size ∙ r .size;
     few = omega arith;
-    inside = each-on (Inside s) w (r .inside);
+    inside = each-on (WordInside s) w (r .inside);
     rising = λ i j l h. go i j l (was i (omega arith)) (was j h);
   }
     where

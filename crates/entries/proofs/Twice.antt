@@ -17,7 +17,7 @@ use Rattle.item.specs.Encode.{item, encode}
 use Rattle.item.proofs.Exact.{and-left, and-right}
 use Rattle.item.proofs.Same.{same-refl, same-eq}
 use Rattle.entries.specs.Entries.{Stands, Lies, keyTwice}
-use Rattle.entries.specs.Contract.{hashFrom, hashOf, Has, twiceIn, ofClass, Judged}
+use Rattle.entries.specs.Contract.{hashFrom, hashOf, Has, twiceIn, ofClass, LeftOver}
 use Rattle.entries.proofs.Standing.{stands-left, stands-is, stands-at}
 use Rattle.entries.proofs.Walking.{Turn, no-more}
 
@@ -153,10 +153,10 @@ class-done class last es h e n i = go (eqb n class) refl
 
 -- ---- each key searched for behind it
 
-pub judged-none : {s : List ℕ} {from to : ℕ} (es : Entries) → Lies s from to es → Judged s to from es
+pub judged-none : {s : List ℕ} {from to : ℕ} (es : Entries) → Lies s from to es → LeftOver s to from es
 judged-none es h = record { rest = es; lies = h; whole = refl }
 
-module _ {s : List ℕ} {to at : ℕ} {es : Entries} (w : Judged s to at es) where
+module _ {s : List ℕ} {to at : ℕ} {es : Entries} (w : LeftOver s to at es) where
   pub judged-all : to ≤ at → false ≡ keyTwice es
   unfolding keyTwice
   judged-all h = sym (w .whole ∙ ap keyTwice (no-more (w .rest) h (w .lies)))
@@ -169,7 +169,7 @@ module _ {s : List ℕ} {to at : ℕ} {es : Entries} (w : Judged s to at es) whe
     pub judged-again : hasKey (t .entry .k) (t .entry .others) ≡ true → true ≡ keyTwice es
     judged-again e = sym (opened e)
 
-    pub judged-on : hasKey (t .entry .k) (t .entry .others) ≡ false → Judged s to next es
+    pub judged-on : hasKey (t .entry .k) (t .entry .others) ≡ false → LeftOver s to next es
     judged-on e = record { rest = t .entry .others; lies = t .behind; whole = opened e }
 
 -- ---- the walk

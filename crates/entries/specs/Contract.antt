@@ -54,10 +54,10 @@ unfoldable pub ofClass : ℕ → ℕ → List ℕ → Bool
 ofClass class last k = eqb (bitAnd (hashOf k / 2 ^ 28) last) class
 
 -- what a filter tells of it
-abbrev pub Tells : Bool → Filtered → Type 0
-Tells twice filtered.Twice = twice ≡ true
-Tells twice filtered.Once = twice ≡ false
-Tells twice filtered.Crowded = Unit {0}
+abbrev pub Filters : Bool → Filtered → Type 0
+Filters twice filtered.Twice = twice ≡ true
+Filters twice filtered.Once = twice ≡ false
+Filters twice filtered.Crowded = Unit {0}
 
 -- ---- keys in their order
 
@@ -67,16 +67,16 @@ pub data Below : List ℕ → List ℕ → Type 0 where
   less : {a b : ℕ} {xs ys : List ℕ} → a < b → Below (a ∷ xs) (b ∷ ys)
   more : {a : ℕ} {xs ys : List ℕ} → Below xs ys → Below (a ∷ xs) (a ∷ ys)
 
-abbrev pub Ordered : List ℕ → List ℕ → Order → Type 0
-Ordered a b order.Below = Below a b
-Ordered a b order.Same = a ≡ b
-Ordered a b order.Above = Below b a
+abbrev pub OrderOf : List ℕ → List ℕ → Order → Type 0
+OrderOf a b order.Below = Below a b
+OrderOf a b order.Same = a ≡ b
+OrderOf a b order.Above = Below b a
 
 -- a key by its places, which stand in one word
 unfoldable pub keyOf : List ℕ → ℕ → List ℕ
 keyOf s w = take (w % 2 ^ 21 - w / 2 ^ 21) (drop (w / 2 ^ 21) s)
 
-pub record Inside (s : List ℕ) (w : ℕ) : Type 0 where
+pub record WordInside (s : List ℕ) (w : ℕ) : Type 0 where
   pub order : w / 2 ^ 21 ≤ w % 2 ^ 21
   pub within : w % 2 ^ 21 ≤ length s
 
@@ -84,7 +84,7 @@ pub record Inside (s : List ℕ) (w : ℕ) : Type 0 where
 pub record Run (s run : List ℕ) (n : ℕ) : Type 0 where
   pub size : length run ≡ 2 ^ 11
   pub few : n ≤ 2 ^ 11
-  pub inside : (i : ℕ) → i < n → Inside s (getD run i 0)
+  pub inside : (i : ℕ) → i < n → WordInside s (getD run i 0)
   pub rising : (i j : ℕ) → i < j → j < n → Below (keyOf s (getD run i 0)) (keyOf s (getD run j 0))
 
 -- a key that is one of them
@@ -99,9 +99,9 @@ pub record Gap (s run : List ℕ) (n : ℕ) (key : List ℕ) (place : ℕ) : Typ
   pub before : (i : ℕ) → i < place → Below (keyOf s (getD run i 0)) key
   pub behind : (i : ℕ) → place ≤ i → i < n → Below key (keyOf s (getD run i 0))
 
-abbrev pub Placed : List ℕ → List ℕ → ℕ → List ℕ → Place → Type 0
-Placed s run n key place.Taken = Held s run n key
-Placed s run n key (place.Free p) = Gap s run n key p
+abbrev pub Located : List ℕ → List ℕ → ℕ → List ℕ → Place → Type 0
+Located s run n key place.Taken = Held s run n key
+Located s run n key (place.Free p) = Gap s run n key p
 
 -- words before and after one is put at a place among the first of them
 pub record Inserted (old new : List ℕ) (n place word : ℕ) : Type 0 where
@@ -113,14 +113,14 @@ pub record Inserted (old new : List ℕ) (n place word : ℕ) : Type 0 where
 -- ---- entries in chunks
 
 -- what is left decides as all of it does
-pub record Judged (s : List ℕ) (to at : ℕ) (es : Entries) : Type 0 where
+pub record LeftOver (s : List ℕ) (to at : ℕ) (es : Entries) : Type 0 where
   pub rest : Entries
   pub lies : Lies s at to rest
   pub whole : keyTwice es ≡ keyTwice rest
 
 abbrev pub AgreesChunk : List ℕ → ℕ → Entries → Chunk → Type 0
 AgreesChunk s to es chunk.Twice = keyTwice es ≡ true
-AgreesChunk s to es (chunk.Behind p) = Judged s to p es
+AgreesChunk s to es (chunk.Behind p) = LeftOver s to p es
 
 -- each chunk has an entry
 abbrev pub Goes : ℕ → Chunk → Type 0

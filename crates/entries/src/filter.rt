@@ -5,7 +5,7 @@ ghost use Prim.Native.Nat.{_≤_, _<_, _^_};
 ghost use lib.ListN.{length};
 ghost use Rattle.item.specs.Tree.{Entries};
 ghost use Rattle.entries.specs.Entries.{Lies, keyTwice};
-ghost use Rattle.entries.specs.Contract.{hashOf, bitsOf, Marked, twiceIn, ofClass, Tells};
+ghost use Rattle.entries.specs.Contract.{hashOf, bitsOf, Marked, twiceIn, ofClass, Filters};
 use crate::Pair;
 use crate::Span;
 use crate::has_key;
@@ -87,7 +87,7 @@ fn class_repeats(
 ) -> Filtered
     requires { ⌜ (from ≤ to) × (to ≤ length (now s)) × (length (now s) ≤ 2 ^ 20) × (length (now seen) ≡ 2 ^ 11) ⌝ }
     ensures { λ _. ⌜ length (now (seen .exit)) ≡ 2 ^ 11 ⌝ }
-    ensures { λ r. ⌜ ((es : Entries) → Lies (now (s .entry)) from to es → Tells (twiceIn (ofClass class last) es) r) ⌝ }
+    ensures { λ r. ⌜ ((es : Entries) → Lies (now (s .entry)) from to es → Filters (twiceIn (ofClass class last) es) r) ⌝ }
 {
     clear(seen);
     let mut spare: usize = 32;
@@ -130,7 +130,7 @@ fn filter_repeats(
 ) -> Filtered
     requires { ⌜ (from ≤ to) × (to ≤ length (now s)) × (length (now s) ≤ 2 ^ 20) × (last < 2 ^ 4) × (length (now seen) ≡ 2 ^ 11) ⌝ }
     ensures { λ _. ⌜ length (now (seen .exit)) ≡ 2 ^ 11 ⌝ }
-    ensures { λ r. ⌜ ((es : Entries) → Lies (now (s .entry)) from to es → Tells (keyTwice es) r) ⌝ }
+    ensures { λ r. ⌜ ((es : Entries) → Lies (now (s .entry)) from to es → Filters (keyTwice es) r) ⌝ }
 {
     let mut class = 0;
     while class <= last {

@@ -5,7 +5,7 @@ ghost use mathlib.Core.Path.{_≡_};
 ghost use lib.ListN.{length};
 ghost use Rattle.item.specs.Tree.{Entries};
 ghost use Rattle.entries.specs.Entries.{Lies, keyTwice};
-ghost use Rattle.entries.specs.Contract.{Ordered, Inside, keyOf, Run, Placed, Inserted, AgreesChunk, Goes};
+ghost use Rattle.entries.specs.Contract.{OrderOf, WordInside, keyOf, Run, Located, Inserted, AgreesChunk, Goes};
 use crate::Pair;
 use crate::pair_at;
 
@@ -29,7 +29,7 @@ enum Chunk {
 }
 
 fn compare(a: &[u8], b: &[u8]) -> Order
-    ensures { λ r. ⌜ Ordered (now (a .entry)) (now (b .entry)) r ⌝ }
+    ensures { λ r. ⌜ OrderOf (now (a .entry)) (now (b .entry)) r ⌝ }
 {
     let mut i = 0;
     while i < a.len() {
@@ -52,8 +52,8 @@ fn compare(a: &[u8], b: &[u8]) -> Order
 
 // A word is the place where a key begins, times 2 ^ 21, and the place where it ends.
 fn compare_word(s: &[u8], word: usize, key: &[u8]) -> Order
-    requires { ⌜ Inside (now s) word ⌝ }
-    ensures { λ r. ⌜ Ordered (keyOf (now (s .entry)) word) (now (key .entry)) r ⌝ }
+    requires { ⌜ WordInside (now s) word ⌝ }
+    ensures { λ r. ⌜ OrderOf (keyOf (now (s .entry)) word) (now (key .entry)) r ⌝ }
 {
     let start = word / 2097152;
     let end = word % 2097152;
@@ -62,7 +62,7 @@ fn compare_word(s: &[u8], word: usize, key: &[u8]) -> Order
 
 fn place_of(s: &[u8], run: &[usize; 2048], count: usize, key: &[u8]) -> Place
     requires { ⌜ Run (now s) (now run) count ⌝ }
-    ensures { λ r. ⌜ Placed (now (s .entry)) (now (run .entry)) count (now (key .entry)) r ⌝ }
+    ensures { λ r. ⌜ Located (now (s .entry)) (now (run .entry)) count (now (key .entry)) r ⌝ }
 {
     let mut low = 0;
     let mut high = count;

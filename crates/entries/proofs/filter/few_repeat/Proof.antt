@@ -7,14 +7,14 @@ use mathlib.Core.List.{List}
 use Rattle.item.specs.Tree.{Entries, get}
 use Rattle.item.specs.declared.Found.{Found}
 use Rattle.entries.specs.Entries.{Lies, Places, Seeks}
-use Rattle.entries.specs.Contract.{Judged}
+use Rattle.entries.specs.Contract.{LeftOver}
 use Rattle.entries.proofs.Walking.{places-of, Turn, turn, no-entry, key-there, key-missing}
 use Rattle.entries.proofs.Twice.{judged-none, judged-all, judged-again, judged-on}
 use Rattle.entries.proofs.filter.few_repeat.Statement.{statement}
 use Rattle.entries.proofs.filter.few_repeat.Tie as tie
 
 abbrev Inv-loop : tie.InvT-loop
-Inv-loop s from to at₀ at = (es : Entries) → Lies s from to es → Judged s to at es
+Inv-loop s from to at₀ at = (es : Entries) → Lies s from to es → LeftOver s to at es
 
 abbrev μ-loop : tie.MeasureT-loop
 μ-loop s from to at₀ at = to - at
@@ -54,7 +54,7 @@ module _ (c : tie.After-known-told Inv-loop μ-loop) where
   here = places-of (c .before .pair .given .1) (c .before .before .before .pair-at .ensures .0)
 
   module _ (es : Entries) (h : Lies s from to es) where
-    abbrev judged : Judged s to at es
+    abbrev judged : LeftOver s to at es
     judged = c .before .before .before .before .before .loop .inv es h
 
     turned : Turn s at to (judged .rest) start stop (c .before .pair .given .0 .1 .1 .0) next

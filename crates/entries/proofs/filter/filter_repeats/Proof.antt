@@ -7,7 +7,7 @@ use mathlib.Core.Bool.{false}
 use lib.ListN.{length}
 use Rattle.item.specs.Tree.{Entries}
 use Rattle.entries.specs.Entries.{Lies}
-use Rattle.entries.specs.Contract.{twiceIn, ofClass, Tells}
+use Rattle.entries.specs.Contract.{twiceIn, ofClass, Filters}
 use Rattle.entries.proofs.Twice.{twice-whole, no-class, class-done}
 use Rattle.entries.proofs.filter.filter_repeats.Statement.{statement}
 use Rattle.entries.proofs.filter.filter_repeats.Tie as tie
@@ -22,13 +22,13 @@ loop-holds : tie.Need-loop-holds Inv-loop μ-loop
 loop-holds c = (omega arith, search needs, λ es h n i. absurd (omega arith))
 
 returns : tie.Need-returns Inv-loop μ-loop
-returns c = let r = c .before .before .class-repeats .ensures in (r .0, λ es h. twice-whole _ es (subst (Tells _) (c .enum-told .given .1) (r .1 es h)))
+returns c = let r = c .before .before .class-repeats .ensures in (r .0, λ es h. twice-whole _ es (subst (Filters _) (c .enum-told .given .1) (r .1 es h)))
 
 loop-again : tie.Need-loop-again Inv-loop μ-loop
 loop-again c = let r = c .before .before .class-repeats .ensures in (
   search needs,
   r .0,
-  λ es h. class-done _ _ es (c .before .before .before .before .before .loop .inv .2 es h) (subst (Tells _) (c .enum-told2 .given .1) (r .1 es h)),
+  λ es h. class-done _ _ es (c .before .before .before .before .before .loop .inv .2 es h) (subst (Filters _) (c .enum-told2 .given .1) (r .1 es h)),
 )
 
 returns-2 : tie.Need-returns-2 Inv-loop μ-loop

@@ -8,7 +8,7 @@ use mathlib.Core.List.{List}
 use lib.ListN.{take, drop}
 use Rattle.item.specs.Tree.{Entries}
 use Rattle.entries.specs.Entries.{Lies, Places}
-use Rattle.entries.specs.Contract.{keyOf, Run, Gap, Placed, Inserted}
+use Rattle.entries.specs.Contract.{keyOf, Run, Gap, Located, Inserted}
 use Rattle.entries.proofs.Walking.{places-of, Turn, turn, no-entry}
 use Rattle.entries.proofs.Runs.{word-key, word-inside, run-on}
 use Rattle.entries.proofs.Chunks.{Chunked, chunked-none, chunked-all, chunked-twice, chunked-past, chunked-on}
@@ -94,7 +94,7 @@ module _ (c : tie.After-known-told2 Inv-loop μ-loop) where
   gap = c .before .place .given .0 .0
 
   free : Gap (s head) (run head) (count head) (key head) gap
-  free = subst (Placed (s head) (run head) (count head) (key head)) (c .before .place .given .1) (c .before .before .before .place-of .ensures)
+  free = subst (Located (s head) (run head) (count head) (key head)) (c .before .place .given .1) (c .before .before .before .place-of .ensures)
 
   small : stop head < 2 ^ 21
   small = omega (arith, here head .value, here head .inside, head .before .before .before .before .before .before .before .pre)
@@ -125,7 +125,7 @@ place-of-requires c κs = c .before .before .before .before .before .before .bef
 returns-2 : tie.Need-returns-2 Inv-loop μ-loop
 returns-2 c = (
   (c .before .before .before .before .before .before .before .before .before .before .loop .inv .3 .size, tt),
-  λ es h. let k = c .before .before .before .before .before in chunked-twice (chunked k es h) (turned k es h) (subst (Placed (s k) (run k) (count k) (key k)) (c .enum-told2 .given .1) (c .before .before .place-of .ensures)),
+  λ es h. let k = c .before .before .before .before .before in chunked-twice (chunked k es h) (turned k es h) (subst (Located (s k) (run k) (count k) (key k)) (c .enum-told2 .given .1) (c .before .before .place-of .ensures)),
 )
 
 mul-insert : tie.Need-mul-insert Inv-loop μ-loop

@@ -3,7 +3,7 @@ use borrow.Author.Needs.{needs}
 use native.Mathlib.Omega.{arith}
 use mathlib.Core.Path.{subst}
 use Prim.Native.Nat.{_+_, _-_, _/_}
-use Rattle.entries.specs.Contract.{Ordered}
+use Rattle.entries.specs.Contract.{OrderOf}
 use Rattle.entries.proofs.Runs.{Between, between-all, gap, between-right, between-left}
 use Rattle.entries.proofs.sorted.place_of.Statement.{statement}
 use Rattle.entries.proofs.sorted.place_of.Tie as tie
@@ -44,7 +44,7 @@ loop-less c = search needs
 loop-again : tie.Need-loop-again Inv-loop μ-loop
 loop-again c =
     let a = c .before .before .before .before .before .before .before .before .args in
-    between-right (c .before .before .before .before .before .loop .inv) (c .before .before .before .before .before .before .before .before .pre) _ (search needs) (search needs) (subst (Ordered _ (a .key .now)) (c .enum-told .given .1) (c .before .before .compare-word .ensures))
+    between-right (c .before .before .before .before .before .loop .inv) (c .before .before .before .before .before .before .before .before .pre) _ (search needs) (search needs) (subst (OrderOf _ (a .key .now)) (c .enum-told .given .1) (c .before .before .compare-word .ensures))
 
 enum-told-2 : tie.Need-enum-told-2 Inv-loop μ-loop
 enum-told-2 c = search needs
@@ -56,7 +56,7 @@ returns c =
     record {
       index = (l .low + l .high) / 2;
       below = omega (arith, c .before .before .before .before .before .loop .inv .within, c .before .before .before .before .loop-test .taken);
-      is = subst (Ordered _ (a .key .now)) (c .enum-told2 .given .1) (c .before .before .compare-word .ensures);
+      is = subst (OrderOf _ (a .key .now)) (c .enum-told2 .given .1) (c .before .before .compare-word .ensures);
     }
 
 enum-told-3 : tie.Need-enum-told-3 Inv-loop μ-loop
@@ -68,7 +68,7 @@ loop-less-2 c = search needs
 loop-again-2 : tie.Need-loop-again-2 Inv-loop μ-loop
 loop-again-2 c =
     let a = c .before .before .before .before .before .before .before .before .args in
-    between-left (c .before .before .before .before .before .loop .inv) (c .before .before .before .before .before .before .before .before .pre) _ (search needs) (search needs) (subst (Ordered _ (a .key .now)) (c .enum-told3 .given .1) (c .before .before .compare-word .ensures))
+    between-left (c .before .before .before .before .before .loop .inv) (c .before .before .before .before .before .before .before .before .pre) _ (search needs) (search needs) (subst (OrderOf _ (a .key .now)) (c .enum-told3 .given .1) (c .before .before .compare-word .ensures))
 
 returns-2 : tie.Need-returns-2 Inv-loop μ-loop
 returns-2 c = gap (c .before .loop .inv) (search needs)

@@ -6,7 +6,7 @@ use Prim.Native.Nat.{_-_, _≤_, _^_}
 use lib.ListN.{length}
 use Rattle.item.specs.Tree.{Entries}
 use Rattle.entries.specs.Entries.{Lies}
-use Rattle.entries.specs.Contract.{Judged, AgreesChunk, Goes}
+use Rattle.entries.specs.Contract.{LeftOver, AgreesChunk, Goes}
 use Rattle.entries.proofs.Twice.{judged-none, judged-all}
 use Rattle.entries.proofs.sorted.sorted_repeats.Statement.{statement}
 use Rattle.entries.proofs.sorted.sorted_repeats.Tie as tie
@@ -15,7 +15,7 @@ use Rattle.entries.proofs.sorted.sorted_repeats.Lts as lts
 use Rattle.entries.proofs.sorted.chunk_repeats.Reads as chunk-repeats-reads
 
 abbrev Inv-loop : tie.InvT-loop
-Inv-loop s from to run₀ at₀ run at = (length run ≡ 2 ^ 11) × ((es : Entries) → Lies s from to es → Judged s to at es)
+Inv-loop s from to run₀ at₀ run at = (length run ≡ 2 ^ 11) × ((es : Entries) → Lies s from to es → LeftOver s to at es)
 
 abbrev μ-loop : tie.MeasureT-loop
 μ-loop s from to run₀ at₀ run at = to - at
