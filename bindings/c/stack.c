@@ -7,7 +7,7 @@
 #include <string.h>
 #include <sys/mman.h>
 
-enum { STACK = 1 << 20, PATTERN = 0xa5, LEVELS = 32 };
+enum { STACK = 1 << 20, PATTERN = 0xa5, LEVELS = 32, MANY = 1000 };
 
 static uint8_t text[DRUM_TEXT_MAX], work[DRUM_WORK_MAX], record[DRUM_RECORD_MAX];
 static uint32_t lines[DRUM_LINES_MAX];
@@ -138,10 +138,54 @@ static void keys_behind_dashes(void) {
     }
 }
 
+/* Keys that differ; if crowded, those that stand in one word where new keys are told by bits (crates/entries/src/filter.rt). */
+static const char *next_key(int crowded) {
+    static unsigned n;
+    static char key[9];
+    uint32_t hash;
+    do {
+        snprintf(key, sizeof key, "%x", n++);
+        hash = 0;
+        for (const char *c = key; *c; c++) hash = (hash + (uint8_t)*c + 1) * 16777619u;
+    } while (crowded && hash % 2048);
+    return key;
+}
+
+/* In the deepest mapping of a line, or of lines, many keys. */
+static void many_in_braces(int crowded) {
+    begin();
+    put(" ");
+    for (int i = 1; i < LEVELS; i++) put("{a: ");
+    text_len -= 3;
+    for (int i = 0; i < MANY; i++) {
+        put(next_key(crowded));
+        put(": 1,");
+    }
+    for (int i = 1; i < LEVELS; i++) put("}");
+}
+
+static void many_in_lines(int crowded) {
+    begin();
+    put("\n");
+    for (int i = 1; i < LEVELS; i++) {
+        for (int key = 0; key < (i + 1 < LEVELS ? 1 : MANY); key++) {
+            for (int j = 0; j < i; j++) put(" ");
+            put(i + 1 < LEVELS ? "a" : next_key(crowded));
+            put(":\n");
+        }
+    }
+}
+
+static void braces_many(void) { many_in_braces(0); }
+static void braces_crowded(void) { many_in_braces(1); }
+static void lines_many(void) { many_in_lines(0); }
+static void lines_crowded(void) { many_in_lines(1); }
+
 int main(void) {
     static const struct { const char *name; void (*make)(void); } texts[] = {
         {"31 brackets", brackets}, {"31 braces", braces}, {"31 keys", keys}, {"31 dashes", dashes}, {"keys and dashes in turn", both},
-        {"keys behind dashes", keys_behind_dashes}};
+        {"keys behind dashes", keys_behind_dashes}, {"many keys in 31 braces", braces_many}, {"many that share a word", braces_crowded},
+        {"many keys in lines", lines_many}, {"many lines that share a word", lines_crowded}};
     for (size_t i = 0; i < sizeof texts / sizeof *texts; i++) {
         texts[i].make();
         measure(texts[i].name, "drum_read_tree", read_tree);

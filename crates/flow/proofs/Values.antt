@@ -23,7 +23,7 @@ use Rattle.scalar.specs.Scalars.{keyText, boolText, intText}
 use Rattle.scalar.specs.Read.{Got, charge, stop, scalar, skipSpaces, string, doubleQuoted, singleQuoted, plain}
 use Rattle.scalar.specs.Contract.{written, isKey, Refuses, WroteValue, AgreesParsed}
 use Rattle.flow.specs.Flow.{behindColon, entryValue, flowSeq, flowMap, node, value}
-use Rattle.flow.specs.Contract.{separates, skipSeparators, levelsInside, sequenceOf, entriesOf, mappingOf, entryOf, WrotePair}
+use Rattle.flow.specs.Contract.{separates, skipSeparators, levelsInside, sequenceOf, flowEntries, mappingOf, entryOf, WrotePair}
 use Rattle.flow.proofs.Progress.{Takes, value-takes, entryValue-le}
 use Rattle.flow.proofs.Invariants.{kept-before, kept-less, next, wrote-is, refused-is}
 
@@ -105,7 +105,7 @@ module _ (cap n sum : ℕ) (bs : List ℕ) where
 
   opens : (levels : ℕ) → (levels ≡ 0 → ⊥) → sum + 6 ≤ cap
       → (flowSeq cap n (levelsInside cap n levels) sum bs ≡ sequenceOf cap n (levels - 1) sum bs) × (flowMap cap n (levelsInside cap n levels) sum bs ≡ mappingOf cap n (levels - 1) sum bs)
-  unfolding flowSeq flowMap levelsInside charge if_then_else_ _>>=_ sequenceOf entriesOf mappingOf
+  unfolding flowSeq flowMap levelsInside charge if_then_else_ _>>=_ sequenceOf flowEntries mappingOf
   opens zero z h = absurd (z refl)
   opens (suc levels) z h = let e : suc levels - 1 ≡ levels = omega arith in (rw (le-leb (sum + 6) cap h, e), rw (le-leb (sum + 6) cap h, e))
 
