@@ -24,5 +24,8 @@ pub mod OrdinaryKeys
 pub mod OrdinaryTrims
 pub mod Plains
 pub mod Examples
-pub mod Programmes
+pub mod Noon
+pub mod Hymn
+pub mod Rounds
+pub mod Kinds
 pub mod Open
