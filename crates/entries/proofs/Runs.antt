@@ -1,4 +1,4 @@
--- Runs of keys in their order: a key put in at its place. Assumes nothing.
+-- Runs of keys in their order: the search for a key, and a key put in at its place. Assumes nothing.
 use mathlib.Core.Path.{_≡_, refl, ap, _∙_, subst}
 use mathlib.Core.Logic.{_⊎_, inl, inr, ⊎-elim}
 use Prim.Native.Nat.{ℕ, _+_, _*_, _-_, _/_, _%_, _^_, _≤_, _<_}

@@ -1,5 +1,5 @@
--- Section 5 of document 01, for the contracts inside the crate: the bits by which keys are told to be new, and the classes in which they are
--- judged. Uses Tree of `item`. Assumes nothing.
+-- Section 5 of document 01, for the contracts inside the crate: the bits by which keys are told to be new, the classes in which they are
+-- judged, and the order in which they are looked up. Uses Tree of `item`, and Entries. Assumes nothing.
 use mathlib.Core.Path.{_≡_}
 use Prim.Native.Nat.{ℕ, _+_, _*_, _-_, _/_, _%_, _^_, _≤_, _<_}
 use mathlib.Core.List.{List, [], _∷_}

@@ -1,8 +1,7 @@
 -- The words stay as many. Assumes nothing.
 use borrow.Author.Needs.{needs}
-use native.Mathlib.Omega.{arith}
 use mathlib.Core.Path.{_≡_}
-use Prim.Native.Nat.{_-_, _≤_, _^_}
+use Prim.Native.Nat.{_-_, _^_}
 use lib.ListN.{length}
 use Rattle.entries.proofs.filter.clear.Statement.{statement}
 use Rattle.entries.proofs.filter.clear.Tie as tie

@@ -1,7 +1,7 @@
 -- The invariant: the run has the keys of the chunk, and no key that was looked up is one of them. Assumes nothing.
 use borrow.Author.Needs.{needs}
 use native.Mathlib.Omega.{arith}
-use mathlib.Core.Path.{_≡_, sym, ap, _∙_, subst}
+use mathlib.Core.Path.{_≡_, sym, subst}
 use mathlib.Core.Logic.{_⊎_, inl, inr, ⊎-elim}
 use Prim.Native.Nat.{ℕ, _+_, _*_, _-_, _≤_, _<_, _^_}
 use mathlib.Core.List.{List}
@@ -14,11 +14,6 @@ use Rattle.entries.proofs.Runs.{word-key, word-inside, run-on}
 use Rattle.entries.proofs.Chunks.{Chunked, chunked-none, chunked-all, chunked-twice, chunked-past, chunked-on}
 use Rattle.entries.proofs.sorted.chunk_repeats.Statement.{statement}
 use Rattle.entries.proofs.sorted.chunk_repeats.Tie as tie
-use Rattle.entries.proofs.sorted.chunk_repeats.Reads as reads
-use Rattle.entries.proofs.sorted.chunk_repeats.Lts as lts
-use Rattle.entries.proofs.pair_at.Reads as pair-at-reads
-use Rattle.entries.proofs.sorted.insert.Reads as insert-reads
-use Rattle.entries.proofs.sorted.place_of.Reads as place-of-reads
 
 abbrev Inv-loop : tie.InvT-loop
 Inv-loop s from to run₀ count₀ behind₀ at₀ run count behind at = (from + count ≤ behind) × (behind ≤ at) × ((at ≤ behind) ⊎ (2 ^ 11 ≤ count)) × Run s run count
@@ -96,31 +91,19 @@ module _ (c : tie.After-known-told2 Inv-loop μ-loop) where
   free : Gap (s head) (run head) (count head) (key head) gap
   free = subst (Located (s head) (run head) (count head) (key head)) (c .before .place .given .1) (c .before .before .before .place-of .ensures)
 
-  small : stop head < 2 ^ 21
+  small : stop head ≤ 2 ^ 20
   small = omega (arith, here head .value, here head .inside, head .before .before .before .before .before .before .before .pre)
 
   abbrev word : ℕ
   word = start head * 2 ^ 21 + stop head
 
   is-key : keyOf (s head) word ≡ key head
-  is-key = word-key (s head) (start head) (stop head) small
+  is-key = word-key (s head) (start head) (stop head) (omega (arith, small))
 
   grown : {new : List ℕ} → count head < 2 ^ 11 → Inserted (run head) new (count head) gap word → Run (s head) new (count head + 1)
   grown m p =
       run-on p (free .within) (head .before .before .before .before .before .loop .inv .3) (subst (λ (k : List ℕ). Gap (s head) (run head) (count head) k gap) (sym is-key) free)
-      (word-inside (s head) (start head) (stop head) small (here head .key) (omega (arith, here head .value, here head .inside))) m
-
-sub-place-of : tie.Need-sub-place-of Inv-loop μ-loop
-sub-place-of c = here (c .before) .key
-
-part-place-of-start : tie.Need-part-place-of-start Inv-loop μ-loop
-part-place-of-start c = here (c .before) .key
-
-part-place-of-end : tie.Need-part-place-of-end Inv-loop μ-loop
-part-place-of-end c = let k = here (c .before) in omega (arith, k .value, k .inside)
-
-place-of-requires : tie.Need-place-of-requires Inv-loop μ-loop
-place-of-requires c κs = c .before .before .before .before .before .before .before .loop .inv .3
+      (word-inside (s head) (start head) (stop head) (omega (arith, small)) (here head .key) (omega (arith, here head .value, here head .inside))) m
 
 returns-2 : tie.Need-returns-2 Inv-loop μ-loop
 returns-2 c = (
@@ -128,35 +111,18 @@ returns-2 c = (
   λ es h. let k = c .before .before .before .before .before in chunked-twice (chunked k es h) (turned k es h) (subst (Located (s k) (run k) (count k) (key k)) (c .enum-told2 .given .1) (c .before .before .place-of .ensures)),
 )
 
-mul-insert : tie.Need-mul-insert Inv-loop μ-loop
-mul-insert c = let k = here (c .before .before .before .before .before .before .before .before) in omega (arith, k .key, k .value, k .inside, c .before .before .before .before .before .before .before .before .before .before .before .before .before .before .before .pre)
-
-add-insert : tie.Need-add-insert Inv-loop μ-loop
-add-insert c = let k = here (c .before .before .before .before .before .before .before .before) in omega (arith, k .key, k .value, k .inside, c .before .before .before .before .before .before .before .before .before .before .before .before .before .before .before .pre)
-
-insert-requires : tie.Need-insert-requires Inv-loop μ-loop
-insert-requires c κs = (free (c .before .before) .within, search needs, c .before .before .before .before .before .before .before .before .before .before .before .before .before .loop .inv .3 .size)
-
-add-count : tie.Need-add-count Inv-loop μ-loop
-add-count c = search needs
-
-loop-less : tie.Need-loop-less Inv-loop μ-loop
-loop-less c = let k = here (c .before .before .before .before .before .before .before .before .before) in omega (arith, k .first, k .key, k .value, c .before .before .before .before .before .before .before .before .before .before .before .before .before .loop-test .taken)
-
 loop-again : tie.Need-loop-again Inv-loop μ-loop
 loop-again c =
     let m = c .before .before .before in
     let k = head m in
-    let i = here k in (
-      omega (arith, i .first, i .key, i .value, c .before .before .before .before .before .before .before .before .before .before .before .before .before .before .loop .inv .0, c .before .before .before .before .before .before .before .before .before .before .before .before .before .before .loop .inv .1),
+    let i = here k in
+    let l = c .before .before .before .before .before .before .before .before .before .before .before .before .before .before .loop .inv in (
+      omega (arith, i .first, i .key, i .value, l .0, l .1),
       omega arith,
       inl (omega arith),
       grown m (c .before .before .if1 .taken) (c .insert .ensures),
       λ es h. chunked-on (chunked k es h) (turned k es h) (free m) (c .before .before .if1 .taken) (c .insert .ensures) (is-key m),
     )
-
-loop-less-2 : tie.Need-loop-less-2 Inv-loop μ-loop
-loop-less-2 c = let k = here (c .before .before .before .before .before .before .before) in omega (arith, k .first, k .key, k .value, c .before .before .before .before .before .before .before .before .before .before .before .loop-test .taken)
 
 loop-again-2 : tie.Need-loop-again-2 Inv-loop μ-loop
 loop-again-2 c =
@@ -180,28 +146,20 @@ returns-3 c =
 
 pub chunk-repeats-spec : {M : Type 1} → statement M
 chunk-repeats-spec =
-    tie.close
-    (tie.spec
-    Inv-loop
-    μ-loop
-    loop-holds
-    (λ c κs. search needs)
-    (λ c. search needs)
-    (λ c. search needs)
-    returns
-    sub-place-of
-    part-place-of-start
-    part-place-of-end
-    place-of-requires
+    tie.close (tie.spec Inv-loop μ-loop loop-holds (λ c κs. search needs) (λ c. search needs) (λ c. search needs) returns
+    (λ c. here (c .before) .key)
+    (λ c. here (c .before) .key)
+    (λ c. let k = here (c .before) in omega (arith, k .value, k .inside))
+    (λ c κs. c .before .before .before .before .before .before .before .loop .inv .3)
     (λ c. search needs)
     (λ c. search needs)
     returns-2
-    mul-insert
-    add-insert
-    insert-requires
-    add-count
-    loop-less
+    (λ c. let m = c .before .before in omega (arith, small m, here (head m) .key))
+    (λ c. let m = c .before .before in omega (arith, small m, here (head m) .key))
+    (λ c κs. (free (c .before .before) .within, search needs, c .before .before .before .before .before .before .before .before .before .before .before .before .before .loop .inv .3 .size))
+    (λ c. search needs)
+    (λ c. let k = here (c .before .before .before .before .before .before .before .before .before) in omega (arith, k .first, k .key, k .value, c .before .before .before .before .before .before .before .before .before .before .before .before .before .loop-test .taken))
     loop-again
-    loop-less-2
+    (λ c. let k = here (c .before .before .before .before .before .before .before) in omega (arith, k .first, k .key, k .value, c .before .before .before .before .before .before .before .before .before .before .before .loop-test .taken))
     loop-again-2
     returns-3)

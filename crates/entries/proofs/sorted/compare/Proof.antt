@@ -1,13 +1,10 @@
 -- The invariant: what is left of the keys decides as they do. Assumes nothing.
 use borrow.Author.Needs.{needs}
-use native.Mathlib.Omega.{arith}
 use Prim.Native.Nat.{_≤_, _-_}
 use lib.ListN.{length}
 use Rattle.entries.proofs.Order.{Fronts, fronts-none, drop-less, drop-ends, fronts-end, fronts-on}
 use Rattle.entries.proofs.sorted.compare.Statement.{statement}
 use Rattle.entries.proofs.sorted.compare.Tie as tie
-use Rattle.entries.proofs.sorted.compare.Reads as reads
-use Rattle.entries.proofs.sorted.compare.Lts as lts
 
 abbrev Inv-loop : tie.InvT-loop
 Inv-loop a b i₀ i = (i ≤ length a) × (i ≤ length b) × Fronts a b i

@@ -6,8 +6,6 @@ use Prim.Native.Nat.{_≤_, _-_}
 use Rattle.entries.proofs.Runs.{Moved, moved-none, moved-on, inserted}
 use Rattle.entries.proofs.sorted.insert.Statement.{statement}
 use Rattle.entries.proofs.sorted.insert.Tie as tie
-use Rattle.entries.proofs.sorted.insert.Reads as reads
-use Rattle.entries.proofs.sorted.insert.Lts as lts
 
 abbrev Inv-loop : tie.InvT-loop
 Inv-loop run₀ count place word i₀ run i = (place ≤ i) × (i ≤ count) × Moved run₀ run count i

@@ -1,15 +1,14 @@
 -- The invariant: the keys before `low` are below the key, and it is below those from `high` on. Assumes nothing.
 use borrow.Author.Needs.{needs}
-use native.Mathlib.Omega.{arith}
-use mathlib.Core.Path.{subst}
-use Prim.Native.Nat.{_+_, _-_, _/_}
-use Rattle.entries.specs.Contract.{OrderOf}
+use mathlib.Core.Path.{_≡_, subst}
+use Prim.Native.Nat.{ℕ, _+_, _-_, _/_}
+use mathlib.Core.List.{List}
+use lib.ListN.{getD}
+use Rattle.entries.specs.Contract.{OrderOf, keyOf}
+use Rattle.entries.specs.declared.sorted.Order.{Order}
 use Rattle.entries.proofs.Runs.{Between, between-all, gap, between-right, between-left}
 use Rattle.entries.proofs.sorted.place_of.Statement.{statement}
 use Rattle.entries.proofs.sorted.place_of.Tie as tie
-use Rattle.entries.proofs.sorted.place_of.Reads as reads
-use Rattle.entries.proofs.sorted.place_of.Lts as lts
-use Rattle.entries.proofs.sorted.compare_word.Reads as compare-word-reads
 
 abbrev Inv-loop : tie.InvT-loop
 Inv-loop s run count key low₀ high₀ low high = Between s run count key low high
@@ -20,55 +19,34 @@ abbrev μ-loop : tie.MeasureT-loop
 loop-holds : tie.Need-loop-holds Inv-loop μ-loop
 loop-holds c = between-all _ _ _ _
 
-add-middle : tie.Need-add-middle Inv-loop μ-loop
-add-middle c = omega (arith, c .before .loop .inv .order, c .before .loop .inv .within, c .before .before .before .before .pre .few)
-
-mul-compare-word : tie.Need-mul-compare-word Inv-loop μ-loop
-mul-compare-word c = omega (arith, c .before .loop .inv .order, c .before .loop .inv .within, c .before .before .before .before .pre .few)
-
-element-copy-out-compare-word : tie.Need-element-copy-out-compare-word Inv-loop μ-loop
-element-copy-out-compare-word c = omega (arith, c .before .loop .inv .order, c .before .loop .inv .within, c .before .before .before .before .pre .few)
-
 compare-word-requires : tie.Need-compare-word-requires Inv-loop μ-loop
-compare-word-requires c κs = c .before .before .before .before .before .pre .inside _ (omega (arith, c .before .before .loop .inv .order, c .before .before .loop .inv .within))
+compare-word-requires c κs = c .before .before .before .before .before .pre .inside _ (search needs)
 
-enum-told : tie.Need-enum-told Inv-loop μ-loop
-enum-told c = search needs
+-- the key in the middle was compared
+module _ (c : tie.After-compare-word Inv-loop μ-loop) where
+  abbrev s : List ℕ
+  s = c .before .before .before .before .before .before .args .s .now
 
-add-low : tie.Need-add-low Inv-loop μ-loop
-add-low c = omega (arith, c .before .before .before .before .before .loop .inv .order, c .before .before .before .before .before .loop .inv .within, c .before .before .before .before .before .before .before .before .pre .few)
+  abbrev run : List ℕ
+  run = c .before .before .before .before .before .before .args .run .now
 
-loop-less : tie.Need-loop-less Inv-loop μ-loop
-loop-less c = search needs
+  abbrev key : List ℕ
+  key = c .before .before .before .before .before .before .args .key .now
+
+  abbrev middle : ℕ
+  middle = (c .before .before .before .loop .low + c .before .before .before .loop .high) / 2
+
+  told : {o : Order} → c .compare-word .result ≡ o → OrderOf (keyOf s (getD run middle 0)) key o
+  told e = subst (OrderOf (keyOf s (getD run middle 0)) key) e (c .compare-word .ensures)
 
 loop-again : tie.Need-loop-again Inv-loop μ-loop
-loop-again c =
-    let a = c .before .before .before .before .before .before .before .before .args in
-    between-right (c .before .before .before .before .before .loop .inv) (c .before .before .before .before .before .before .before .before .pre) _ (search needs) (search needs) (subst (OrderOf _ (a .key .now)) (c .enum-told .given .1) (c .before .before .compare-word .ensures))
-
-enum-told-2 : tie.Need-enum-told-2 Inv-loop μ-loop
-enum-told-2 c = search needs
+loop-again c = between-right (c .before .before .before .before .before .loop .inv) (c .before .before .before .before .before .before .before .before .pre) _ (search needs) (search needs) (told (c .before .before) (c .enum-told .given .1))
 
 returns : tie.Need-returns Inv-loop μ-loop
-returns c =
-    let a = c .before .before .before .before .before .before .before .before .args in
-    let l = c .before .before .before .before .before .loop in
-    record {
-      index = (l .low + l .high) / 2;
-      below = omega (arith, c .before .before .before .before .before .loop .inv .within, c .before .before .before .before .loop-test .taken);
-      is = subst (OrderOf _ (a .key .now)) (c .enum-told2 .given .1) (c .before .before .compare-word .ensures);
-    }
-
-enum-told-3 : tie.Need-enum-told-3 Inv-loop μ-loop
-enum-told-3 c = search needs
-
-loop-less-2 : tie.Need-loop-less-2 Inv-loop μ-loop
-loop-less-2 c = search needs
+returns c = record { index = middle (c .before .before); below = search needs; is = told (c .before .before) (c .enum-told2 .given .1) }
 
 loop-again-2 : tie.Need-loop-again-2 Inv-loop μ-loop
-loop-again-2 c =
-    let a = c .before .before .before .before .before .before .before .before .args in
-    between-left (c .before .before .before .before .before .loop .inv) (c .before .before .before .before .before .before .before .before .pre) _ (search needs) (search needs) (subst (OrderOf _ (a .key .now)) (c .enum-told3 .given .1) (c .before .before .compare-word .ensures))
+loop-again-2 c = between-left (c .before .before .before .before .before .loop .inv) (c .before .before .before .before .before .before .before .before .pre) _ (search needs) (search needs) (told (c .before .before) (c .enum-told3 .given .1))
 
 returns-2 : tie.Need-returns-2 Inv-loop μ-loop
 returns-2 c = gap (c .before .loop .inv) (search needs)
@@ -80,17 +58,17 @@ place-of-spec =
     Inv-loop
     μ-loop
     loop-holds
-    add-middle
-    mul-compare-word
-    element-copy-out-compare-word
+    (λ c. search needs)
+    (λ c. search needs)
+    (λ c. search needs)
     compare-word-requires
-    enum-told
-    add-low
-    loop-less
+    (λ c. search needs)
+    (λ c. search needs)
+    (λ c. search needs)
     loop-again
-    enum-told-2
+    (λ c. search needs)
     returns
-    enum-told-3
-    loop-less-2
+    (λ c. search needs)
+    (λ c. search needs)
     loop-again-2
     returns-2)

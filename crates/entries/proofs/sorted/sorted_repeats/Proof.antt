@@ -2,7 +2,7 @@
 use borrow.Author.Needs.{needs}
 use native.Mathlib.Omega.{arith}
 use mathlib.Core.Path.{_≡_, sym, _∙_, subst}
-use Prim.Native.Nat.{_-_, _≤_, _^_}
+use Prim.Native.Nat.{_-_, _^_}
 use lib.ListN.{length}
 use Rattle.item.specs.Tree.{Entries}
 use Rattle.entries.specs.Entries.{Lies}
@@ -10,9 +10,6 @@ use Rattle.entries.specs.Contract.{LeftOver, AgreesChunk, Goes}
 use Rattle.entries.proofs.Twice.{judged-none, judged-all}
 use Rattle.entries.proofs.sorted.sorted_repeats.Statement.{statement}
 use Rattle.entries.proofs.sorted.sorted_repeats.Tie as tie
-use Rattle.entries.proofs.sorted.sorted_repeats.Reads as reads
-use Rattle.entries.proofs.sorted.sorted_repeats.Lts as lts
-use Rattle.entries.proofs.sorted.chunk_repeats.Reads as chunk-repeats-reads
 
 abbrev Inv-loop : tie.InvT-loop
 Inv-loop s from to run₀ at₀ run at = (length run ≡ 2 ^ 11) × ((es : Entries) → Lies s from to es → LeftOver s to at es)
