@@ -24,8 +24,8 @@ pub mod OrdinaryKeys
 pub mod OrdinaryTrims
 pub mod Plains
 pub mod Examples
-pub mod Noon
-pub mod Hymn
-pub mod Rounds
-pub mod Kinds
+pub mod ProgrammeNoon
+pub mod ProgrammeHymn
+pub mod ProgrammeRounds
+pub mod ProgrammeKinds
 pub mod Open
