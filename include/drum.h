@@ -53,9 +53,9 @@ extern "C" {
 #define DRUM_RECORD_MAX 1048576
 #define DRUM_LINES_MAX 16384
 
-/* Bytes of stack that are enough for a call. bindings/c/stack.c measures them on texts and records as deep as may be: some 50,000 bytes at most
- * for the two readings (of which a table of lines is 16,384), some 3,400 for the rest, and 16,384 more where a mapping of a record has many
- * keys. */
+/* Bytes of stack that are enough for a call. bindings/c/stack.c measures them on texts and records as deep as may be, with many keys: some
+ * 60,000 bytes at most for the two readings (of which a table of lines is 16,384, and telling keys apart another 16,384), some 20,000 for
+ * the rest. */
 #define DRUM_STACK 65536
 
 /* Reads the tree of a text into work. Accepted: the bytes of the tree. */
