@@ -15,6 +15,9 @@ use crate::search;
 use crate::sorted::sorted_repeats;
 use item::Found;
 
+// As many words as hold the bits of a class, or the places of keys that are put in order.
+pub(crate) const WORDS: usize = 2048;
+
 // Whether a key stands twice, as far as bits and a few searches tell.
 enum Filtered {
     Twice,
@@ -46,30 +49,30 @@ fn hash(key: &[u8]) -> usize
 fn bits_of(h: usize) -> usize
     ensures { λ r. ⌜ r ≡ bitsOf h ⌝ }
 {
-    let a: usize = 1 << (h / 2048 % 64);
+    let a: usize = 1 << (h / WORDS % 64);
     let b: usize = 1 << (h / 131072 % 64);
     let c: usize = 1 << (h / 8388608 % 64);
     a | b | c
 }
 
 // Whether the bits of a hash were there; now they are.
-fn mark(seen: &mut [usize; 2048], h: usize) -> bool
+fn mark(seen: &mut [usize; WORDS], h: usize) -> bool
     requires { ⌜ length (now seen) ≡ 2 ^ 11 ⌝ }
     ensures { λ r. ⌜ Marked (now (seen .entry)) (now (seen .exit)) h r ⌝ }
 {
-    let i = h % 2048;
+    let i = h % WORDS;
     let bits = bits_of(h);
     let old = seen[i];
     seen[i] = old | bits;
     old & bits == bits
 }
 
-fn clear(words: &mut [usize; 2048])
+fn clear(words: &mut [usize; WORDS])
     requires { ⌜ length (now words) ≡ 2 ^ 11 ⌝ }
     ensures { λ _. ⌜ length (now (words .exit)) ≡ 2 ^ 11 ⌝ }
 {
     let mut i = 0;
-    while i < 2048 {
+    while i < WORDS {
         words[i] = 0;
         i += 1;
     }
@@ -83,7 +86,7 @@ fn class_repeats(
     to: usize,
     class: usize,
     last: usize,
-    seen: &mut [usize; 2048],
+    seen: &mut [usize; WORDS],
 ) -> Filtered
     requires { ⌜ (from ≤ to) × (to ≤ length (now s)) × (length (now s) ≤ 2 ^ 20) × (length (now seen) ≡ 2 ^ 11) ⌝ }
     ensures { λ _. ⌜ length (now (seen .exit)) ≡ 2 ^ 11 ⌝ }
@@ -126,7 +129,7 @@ fn filter_repeats(
     from: usize,
     to: usize,
     last: usize,
-    seen: &mut [usize; 2048],
+    seen: &mut [usize; WORDS],
 ) -> Filtered
     requires { ⌜ (from ≤ to) × (to ≤ length (now s)) × (length (now s) ≤ 2 ^ 20) × (last < 2 ^ 4) × (length (now seen) ≡ 2 ^ 11) ⌝ }
     ensures { λ _. ⌜ length (now (seen .exit)) ≡ 2 ^ 11 ⌝ }
@@ -189,7 +192,7 @@ fn many_repeat(s: &[u8], from: usize, to: usize, last: usize) -> bool
     requires { ⌜ (from ≤ to) × (to ≤ length (now s)) × (length (now s) ≤ 2 ^ 20) × (last < 2 ^ 4) ⌝ }
     ensures { λ r. ⌜ ((es : Entries) → Lies (now (s .entry)) from to es → r ≡ keyTwice es) ⌝ }
 {
-    let mut words = [0usize; 2048];
+    let mut words = [0usize; WORDS];
     match filter_repeats(s, from, to, last, &mut words) {
         Filtered::Twice => true,
         Filtered::Once => false,

@@ -7,7 +7,11 @@ ghost use Rattle.item.specs.Tree.{Entries};
 ghost use Rattle.entries.specs.Entries.{Lies, keyTwice};
 ghost use Rattle.entries.specs.Contract.{OrderOf, WordInside, keyOf, Run, Located, Inserted, AgreesChunk, Goes};
 use crate::Pair;
+use crate::filter::WORDS;
 use crate::pair_at;
+
+// More than a place in the bytes can be.
+const PLACES: usize = 2097152;
 
 // Where a key stands beside another.
 enum Order {
@@ -50,17 +54,17 @@ fn compare(a: &[u8], b: &[u8]) -> Order
     Order::Same
 }
 
-// A word is the place where a key begins, times 2 ^ 21, and the place where it ends.
+// A word is the place where a key begins, times PLACES, and the place where it ends.
 fn compare_word(s: &[u8], word: usize, key: &[u8]) -> Order
     requires { ⌜ WordInside (now s) word ⌝ }
     ensures { λ r. ⌜ OrderOf (keyOf (now (s .entry)) word) (now (key .entry)) r ⌝ }
 {
-    let start = word / 2097152;
-    let end = word % 2097152;
+    let start = word / PLACES;
+    let end = word % PLACES;
     compare(&s[start..end], key)
 }
 
-fn place_of(s: &[u8], run: &[usize; 2048], count: usize, key: &[u8]) -> Place
+fn place_of(s: &[u8], run: &[usize; WORDS], count: usize, key: &[u8]) -> Place
     requires { ⌜ Run (now s) (now run) count ⌝ }
     ensures { λ r. ⌜ Located (now (s .entry)) (now (run .entry)) count (now (key .entry)) r ⌝ }
 {
@@ -77,7 +81,7 @@ fn place_of(s: &[u8], run: &[usize; 2048], count: usize, key: &[u8]) -> Place
     Place::Free(low)
 }
 
-fn insert(run: &mut [usize; 2048], count: usize, place: usize, word: usize)
+fn insert(run: &mut [usize; WORDS], count: usize, place: usize, word: usize)
     requires { ⌜ (place ≤ count) × (count < 2 ^ 11) × (length (now run) ≡ 2 ^ 11) ⌝ }
     ensures { λ _. ⌜ Inserted (now (run .entry)) (now (run .exit)) count place word ⌝ }
 {
@@ -90,7 +94,7 @@ fn insert(run: &mut [usize; 2048], count: usize, place: usize, word: usize)
 }
 
 // The first entries are put in order, and those behind them are looked up.
-fn chunk_repeats(s: &[u8], from: usize, to: usize, run: &mut [usize; 2048]) -> Chunk
+fn chunk_repeats(s: &[u8], from: usize, to: usize, run: &mut [usize; WORDS]) -> Chunk
     requires { ⌜ (from < to) × (to ≤ length (now s)) × (length (now s) ≤ 2 ^ 20) × (length (now run) ≡ 2 ^ 11) ⌝ }
     ensures { λ r. ⌜ (length (now (run .exit)) ≡ 2 ^ 11) × Goes from r ⌝ }
     ensures { λ r. ⌜ ((es : Entries) → Lies (now (s .entry)) from to es → AgreesChunk (now (s .entry)) to es r) ⌝ }
@@ -113,8 +117,8 @@ fn chunk_repeats(s: &[u8], from: usize, to: usize, run: &mut [usize; 2048]) -> C
         let Place::Free(gap) = place else {
             return Chunk::Twice;
         };
-        if count < 2048 {
-            insert(run, count, gap, start * 2097152 + end);
+        if count < WORDS {
+            insert(run, count, gap, start * PLACES + end);
             count += 1;
             behind = next;
         }
@@ -123,7 +127,7 @@ fn chunk_repeats(s: &[u8], from: usize, to: usize, run: &mut [usize; 2048]) -> C
     Chunk::Behind(behind)
 }
 
-pub fn sorted_repeats(s: &[u8], from: usize, to: usize, run: &mut [usize; 2048]) -> bool
+pub fn sorted_repeats(s: &[u8], from: usize, to: usize, run: &mut [usize; WORDS]) -> bool
     requires { ⌜ (from ≤ to) × (to ≤ length (now s)) × (length (now s) ≤ 2 ^ 20) × (length (now run) ≡ 2 ^ 11) ⌝ }
     ensures { λ r. ⌜ ((es : Entries) → Lies (now (s .entry)) from to es → r ≡ keyTwice es) ⌝ }
 {
