@@ -314,7 +314,8 @@ fn put_blanks(table: &mut [u16], at: usize, waiting: usize, indent: usize, numbe
 
 // A line that is read normally.
 fn normal_line(text: &[u8], raw: Raw, table: &mut [u16], count: usize) -> LineTaken
-    requires { ⌜ (length (now table) ≡ tableSize) × IsRaw (now text) raw × (tabbed (rawText (now text) raw) ≡ false) × (count ≤ mostLines) ⌝ }
+    requires { ⌜ (length (now table) ≡ tableSize) × IsRaw (now text) raw × (tabbed (rawText (now text) raw) ≡ false)
+        × (count ≤ mostLines) ⌝ }
     ensures { λ r. ⌜ Takes (now (text .entry)) (now (table .entry)) (now (table .exit)) count (raw .number)
         (λ raws. normal raw (now (text .entry)) raws) r ⌝ }
 {

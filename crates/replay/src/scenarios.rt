@@ -10,6 +10,7 @@ use crate::print::print_spaced;
 use crate::section::SCENARIO_SIZES;
 use crate::section::SCENARIO_TREES;
 use crate::section::Section;
+use item::LIMIT;
 use scenario::ScenarioAnswer;
 
 // The caller owes nothing for the cast.
@@ -118,8 +119,8 @@ fn print_in_parts(
 fn print_in_arrays(
     section: Section,
     text: &[u8],
-    work: &mut [u8; 1048576],
-    record: &mut [u8; 1048576],
+    work: &mut [u8; LIMIT],
+    record: &mut [u8; LIMIT],
     lines: &mut [u32; 262144],
 ) {
     print_in_parts(section, text, work, record, lines);
@@ -129,8 +130,8 @@ pub(crate) fn print_scenario(section: Section, text: &[u8]) {
     print_in_arrays(
         section,
         text,
-        &mut [7u8; 1048576],
-        &mut [7u8; 1048576],
+        &mut [7u8; LIMIT],
+        &mut [7u8; LIMIT],
         &mut [7u32; 262144],
     );
 }

@@ -13,6 +13,7 @@ use crate::stream::next_text;
 use crate::stream::number_at;
 use check_steps::StepsAnswer;
 use check_steps::check_steps;
+use item::LIMIT;
 use lookups::TimesAnswer;
 use record::RecordAnswer;
 use record::part;
@@ -101,8 +102,8 @@ fn print_texts(
 fn print_in_arrays(
     buffer: &mut [u8],
     names: &mut [u8; 65536],
-    work: &mut [u8; 1048576],
-    record: &mut [u8; 1048576],
+    work: &mut [u8; LIMIT],
+    record: &mut [u8; LIMIT],
     lines: &mut [u32; 262144],
 ) {
     let n = next_text(names);
@@ -114,8 +115,8 @@ pub(crate) fn print_scenarios(buffer: &mut [u8]) {
     print_in_arrays(
         buffer,
         &mut [0u8; 65536],
-        &mut [0u8; 1048576],
-        &mut [0u8; 1048576],
+        &mut [0u8; LIMIT],
+        &mut [0u8; LIMIT],
         &mut [0u32; 262144],
     );
 }

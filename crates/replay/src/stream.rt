@@ -7,6 +7,8 @@ use libc::STDIN_FILENO;
 pub(crate) const END: usize = 4294967295;
 // More than the texts of a section, and than the sections.
 pub(crate) const MANY: usize = 100000000;
+// The most bytes that a text may have.
+pub(crate) const LONGEST: usize = 65535;
 
 fn pair(a: u8, b: u8) -> usize
     ensures { λ r. ⌜ r < 65536 ⌝ }

@@ -6,6 +6,7 @@ use crate::print::print_other;
 use crate::print::print_refusal;
 use crate::print::print_spaced;
 use crate::print::print_written;
+use item::LIMIT;
 use tree::TreeAnswer;
 
 fn print_answer(answer: TreeAnswer, work: &[u8]) {
@@ -22,12 +23,12 @@ fn print_answer(answer: TreeAnswer, work: &[u8]) {
 }
 
 // The array becomes a slice here, and not where it is made.
-fn print_tree_in(text: &[u8], work: &mut [u8; 1048576]) {
+fn print_tree_in(text: &[u8], work: &mut [u8; LIMIT]) {
     print_answer(tree::read_tree(text, work), work);
 }
 
 pub(crate) fn print_tree(text: &[u8]) {
-    print_tree_in(text, &mut [7u8; 1048576]);
+    print_tree_in(text, &mut [7u8; LIMIT]);
 }
 
 // Whether the work was too short.

@@ -7,6 +7,7 @@ use crate::print::print_number;
 use crate::print::print_ok;
 use crate::print::print_refusal;
 use crate::print::print_written;
+use crate::stream::LONGEST;
 use flow::Whole;
 use item::Found;
 use scalar::Role;
@@ -29,16 +30,16 @@ fn print_whole(whole: Whole, out: &[u8]) {
     }
 }
 
-fn print_value(s: &[u8], out: &mut [u8; 65535])
+fn print_value(s: &[u8], out: &mut [u8; LONGEST])
     requires { ⌜ length (now s) ≤ 65535 ⌝ }
 {
     print_whole(flow::flow(s, 32, Role::AsValue, 1, out, 0), out);
 }
 
 pub(crate) fn print_line(s: &[u8]) {
-    if s.len() > 65535 {
+    if s.len() > LONGEST {
         return;
     }
     print_key(scalar::key_end(s));
-    print_value(s, &mut [7u8; 65535]);
+    print_value(s, &mut [7u8; LONGEST]);
 }
