@@ -134,6 +134,27 @@ fn texts(part: usize) -> Vec<(&'static str, String)> {
     ]
 }
 
+/// 20 keys that begin with the same letters: of one length, and each the beginning of the next.
+fn long_keys() -> [(&'static str, Vec<String>); 2] {
+    let key = |last: String| "k".repeat(600 - last.len()) + &last;
+    [
+        ("20 keys of 600 letters", (0..20).map(|i| key(format!("{i:02}"))).collect()),
+        ("20 keys of 600 to 619 letters", (0..20).map(|i| key(String::new()) + &"k".repeat(i)).collect()),
+    ]
+}
+
+/// A row of the table of long keys: a step with them is read, and the last is looked up in the record, which checks it.
+fn look_up(name: &str, keys: &[String], lent: &mut Lent) {
+    let text = headed(&format!("steps:\n  - strike: {{{}}}\n", keys.join(": 1, ") + ": 1"));
+    let last = keys.last().expect("a key");
+    let rust = best(|| _ = black_box(Scenario::parse(&text).expect("accepted")));
+    let ours = best(|| _ = black_box(lent.read(&text)));
+    let read = lent.read(&text);
+    let record = &lent.record[..read.record_bytes];
+    let found = best(|| _ = black_box(drum::value_by_key(record, 1, last).expect("a record").expect("a value")));
+    println!("| {name} | {} | {rust:.0} | {ours:.1} | {found:.1} |", text.len());
+}
+
 fn item(kind: u16, content: &[u8]) -> Vec<u8> {
     [&(content.len() as u32).to_le_bytes()[..], &kind.to_le_bytes(), content].concat()
 }
@@ -206,6 +227,10 @@ fn main() {
         compare(name, &text, &mut lent);
     }
     compare("examples/noon.yaml", include_str!("../examples/noon.yaml"), &mut lent);
+    println!("\n| a step with | bytes | the Rust | ours | looked up |\n|---|---|---|---|---|");
+    for (name, keys) in long_keys() {
+        look_up(name, &keys, &mut lent);
+    }
     println!("\n| text | an eighth | a quarter | half | whole |\n|---|---|---|---|---|");
     for (name, parts) in each_kind(texts) {
         grow(name, parts, |text| _ = black_box(lent.read(text)));

@@ -324,6 +324,23 @@ fn keys(cases: &mut Cases) {
     }
 }
 
+/// Keys that begin alike: of one length, and each the beginning of the next; and keys that end alike.
+fn long_keys(cases: &mut Cases) {
+    let long = |first: &str, last: &str| format!("{first}{}{last}", "k".repeat(600));
+    let kinds = [
+        ["a", "b", "ab", "ba"].map(|last| long("", last)),
+        ["", "k", "kk", "kkk"].map(|last| long("", last)),
+        ["a", "b", "ab", "ba"].map(|first| long(first, "")),
+    ];
+    for names in &kinds {
+        let held = names.iter().map(|key| (key.as_str(), null())).collect();
+        let bytes = with_steps(vec![with_id(&names[0], entries(held))]);
+        for key in kinds.iter().flatten().chain(&[long("c", ""), long("", "c")]) {
+            cases.look_up(&bytes, key.as_bytes());
+        }
+    }
+}
+
 /// `times` at the ends of its range, of each kind, and beside any command.
 fn times(cases: &mut Cases) {
     let numbers = [
@@ -425,6 +442,7 @@ fn main() {
     cases.begin("lookups");
     ids(&mut cases);
     keys(&mut cases);
+    long_keys(&mut cases);
     times(&mut cases);
     damaged_lookups(&mut cases);
     from_scenarios(&mut cases, &records, &mut random);

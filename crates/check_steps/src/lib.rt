@@ -25,6 +25,7 @@ use entries::item_at;
 use entries::nth_item;
 use item::Found;
 use item::Header;
+use item::equal_bytes;
 use item::header_at;
 use item::same_bytes;
 use meaning::is_built_in;
@@ -107,8 +108,10 @@ fn is_name(names: &[u8], key: &[u8]) -> bool
         let Header::Item { kind: _, from, to } = head else {
             return false;
         };
-        if same_bytes(key, &names[from..to]) {
-            return true;
+        if to - from == key.len() {
+            if equal_bytes(key, &names[from..to]) {
+                return true;
+            }
         }
         at = to;
     }

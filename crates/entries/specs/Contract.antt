@@ -61,11 +61,15 @@ Filters twice filtered.Crowded = Unit {0}
 
 -- ---- keys in their order
 
--- byte by byte; a key stands below what it begins
-pub data Below : List ℕ → List ℕ → Type 0 where
-  ends : {b : ℕ} {ys : List ℕ} → Below [] (b ∷ ys)
-  less : {a b : ℕ} {xs ys : List ℕ} → a < b → Below (a ∷ xs) (b ∷ ys)
-  more : {a : ℕ} {xs ys : List ℕ} → Below xs ys → Below (a ∷ xs) (a ∷ ys)
+-- byte by byte
+pub data Less : List ℕ → List ℕ → Type 0 where
+  less : {a b : ℕ} {xs ys : List ℕ} → a < b → Less (a ∷ xs) (b ∷ ys)
+  more : {a : ℕ} {xs ys : List ℕ} → Less xs ys → Less (a ∷ xs) (a ∷ ys)
+
+-- the shorter is below; of one length, byte by byte
+pub data Below (a b : List ℕ) : Type 0 where
+  shorter : length a < length b → Below a b
+  as-long : length a ≡ length b → Less a b → Below a b
 
 abbrev pub OrderOf : List ℕ → List ℕ → Order → Type 0
 OrderOf a b order.Below = Below a b

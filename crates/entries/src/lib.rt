@@ -14,8 +14,8 @@ mod sorted;
 pub use filter::repeats;
 use item::Found;
 use item::Header;
+use item::equal_bytes;
 use item::header_at;
-use item::same_bytes;
 
 // An item by its places.
 pub enum Span {
@@ -115,9 +115,10 @@ pub fn search(s: &[u8], from: usize, to: usize, key: &[u8]) -> Found
         else {
             return Found::Nothing;
         };
-        // It compares the lengths first: few keys are looked at byte by byte.
-        if same_bytes(&s[start..end], key) {
-            return Found::At(end);
+        if end - start == key.len() {
+            if equal_bytes(&s[start..end], key) {
+                return Found::At(end);
+            }
         }
         at = next;
     }

@@ -33,13 +33,11 @@ enum Chunk {
 }
 
 fn compare(a: &[u8], b: &[u8]) -> Order
+    requires { ⌜ length (now a) ≡ length (now b) ⌝ }
     ensures { λ r. ⌜ OrderOf (now (a .entry)) (now (b .entry)) r ⌝ }
 {
     let mut i = 0;
     while i < a.len() {
-        if i >= b.len() {
-            return Order::Above;
-        }
         if a[i] < b[i] {
             return Order::Below;
         }
@@ -47,9 +45,6 @@ fn compare(a: &[u8], b: &[u8]) -> Order
             return Order::Above;
         }
         i += 1;
-    }
-    if i < b.len() {
-        return Order::Below;
     }
     Order::Same
 }
@@ -61,6 +56,12 @@ fn compare_word(s: &[u8], word: usize, key: &[u8]) -> Order
 {
     let start = word / PLACES;
     let end = word % PLACES;
+    if end - start < key.len() {
+        return Order::Below;
+    }
+    if end - start > key.len() {
+        return Order::Above;
+    }
     compare(&s[start..end], key)
 }
 

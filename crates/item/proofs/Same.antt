@@ -1,5 +1,5 @@
--- Byte strings compared from the front. Assumes nothing.
-use mathlib.Core.Path.{_≡_, refl}
+-- Byte strings that are the same, and their ends. Assumes nothing.
+use mathlib.Core.Path.{_≡_, refl, sym, ap, subst}
 use Prim.Native.Nat.{ℕ, _+_, _≤_, _<_}
 use native.Mathlib.Omega.{arith}
 use native.Mathlib.Numerals.{add-one}
@@ -8,7 +8,7 @@ use mathlib.Core.Bool.{Bool, true, false, false≢true}
 use lib.Dec.{eqb}
 use lib.ListN.{length, drop, getD, drop-of-length-le}
 use lib.Seq.{drop-cons}
-use borrow.Author.Tests.{eq-eqb, ne-eqb, eqb-true}
+use borrow.Author.Tests.{eq-eqb, eqb-true}
 use Rattle.refusal.specs.Base.{same}
 use Rattle.item.proofs.Exact.{and-left, and-right}
 
@@ -32,15 +32,17 @@ same-ne a b n = go (same a b) refl
     go true e = absurd (n (same-eq a b e))
     go false e = refl
 
+pub same-length : (a b : List ℕ) → (length a ≡ length b → ⊥) → same a b ≡ false
+same-length a b n = same-ne a b (λ e. n (ap length e))
+
+-- ---- ends that are the same
+
 module _ (a b : List ℕ) (i : ℕ) where
-  pub same-end : length a ≡ length b → length a ≤ i → same (drop i a) (drop i b) ≡ true
-  unfolding same
-  same-end e h = rw (drop-of-length-le a {i = i} h, drop-of-length-le b {i = i} (omega arith))
+  pub ends-none : length a ≤ i → length b ≤ i → drop i a ≡ drop i b
+  ends-none h k = rw (drop-of-length-le a {i = i} h, drop-of-length-le b {i = i} k)
 
-  pub same-more : i < length a → i < length b → getD a i 0 ≡ getD b i 0 → same (drop i a) (drop i b) ≡ same (drop (i + 1) a) (drop (i + 1) b)
-  unfolding same
-  same-more h k e = rw (add-one, drop-cons a i 0 h, drop-cons b i 0 k, eq-eqb (getD a i 0) (getD b i 0) e)
+  pub ends-more : i < length a → i < length b → getD a i 0 ≡ getD b i 0 → (n : ℕ) → n ≡ i + 1 → drop n a ≡ drop n b → drop i a ≡ drop i b
+  ends-more h k e n q r = rw (drop-cons a i 0 h, drop-cons b i 0 k, e, ← add-one, ← q, r)
 
-  pub same-other : i < length a → i < length b → (getD a i 0 ≡ getD b i 0 → ⊥) → same (drop i a) (drop i b) ≡ false
-  unfolding same
-  same-other h k n = rw (drop-cons a i 0 h, drop-cons b i 0 k, ne-eqb (getD a i 0) (getD b i 0) n)
+  pub ends-all : i ≤ 0 → drop i a ≡ drop i b → same a b ≡ true
+  ends-all z e = let h : i ≡ 0 = omega arith in subst (λ (n : ℕ). drop n a ≡ drop n b → same a b ≡ true) (sym h) (λ q. rw q (same-refl b)) e

@@ -11,7 +11,7 @@ use lib.ListN.{length, take, drop, getD, drop-of-length-le}
 use lib.Seq.{drop-cons, take-add}
 use borrow.Author.Tests.{eq-eqb, ne-eqb, eqb-true, eqb-false, leb-true, leb-false, ltb-true, ltb-false}
 use Rattle.refusal.specs.Base.{if_then_else_, maybe, ch, bytes, same, endsWith}
-use Rattle.item.proofs.Same.{same-ne}
+use Rattle.item.proofs.Same.{same-length}
 use Rattle.utf8.specs.Utf8.{within}
 use Rattle.utf8.specs.Part.{part}
 use Rattle.utf8.specs.White.{white1, white2, in2000, white3, whiteAt, whiteLen, leading, leadingFrom, trimStart, allWhite}
@@ -270,8 +270,8 @@ indent-white (b ∷ s) = go (eqb b (ch " ")) refl (indent-white s)
 
 pub ends-short : (p t : List ℕ) → length t < length p → endsWith p t ≡ false
 unfolding endsWith
-ends-short p [] h = same-ne p [] (λ e. omega (arith, ap length e))
-ends-short p (b ∷ t) h = rw (same-ne p (b ∷ t) (λ e. omega (arith, ap length e)), ends-short p t (omega arith))
+ends-short p [] h = same-length p [] (λ e. omega arith)
+ends-short p (b ∷ t) h = rw (same-length p (b ∷ t) (λ e. omega arith), ends-short p t (omega arith))
 
 pub ends-at : (p t : List ℕ) → length p ≤ length t → endsWith p t ≡ same p (drop (length t - length p) t)
 unfolding endsWith
@@ -283,7 +283,7 @@ ends-at p (b ∷ t) h = go (leb (length p) (length t)) refl (ends-at p t)
     go true e r =
         let m : length p ≤ length t = leb-true (length p) (length t) e in
         let d : suc (length t) - length p ≡ suc (length t - length p) = omega arith in
-        rw (d, same-ne p (b ∷ t) (λ q. omega (arith, ap length q))) (r m)
+        rw (d, same-length p (b ∷ t) (λ q. omega arith)) (r m)
     go false e r =
         let m : length t < length p = leb-false (length p) (length t) e in
         let d : suc (length t) - length p ≡ 0 = omega arith in

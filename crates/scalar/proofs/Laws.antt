@@ -13,7 +13,7 @@ use Rattle.refusal.specs.Base.{_>>=_, if_then_else_, ch, bytes, same, oneOf}
 use Rattle.item.specs.Tree.{Yaml, null, bool, int, str, seq, dict}
 use Rattle.item.specs.Encode.{item, encode}
 use Rattle.item.proofs.Size.{item-length, encode-size}
-use Rattle.item.proofs.Same.{same-ne}
+use Rattle.item.proofs.Same.{same-length}
 use Rattle.utf8.specs.Part.{part}
 use Rattle.utf8.specs.White.{trim}
 use Rattle.scalar.specs.declared.Role.{Role}
@@ -84,9 +84,6 @@ module _ (role : Role) (y : Yaml) (flat : Flat y) (s old new : List ℕ) (at nex
 
 -- ---- words
 
-same-long : (a b : List ℕ) → (length a ≡ length b → ⊥) → same a b ≡ false
-same-long a b n = same-ne a b (λ e. n (ap length e))
-
 -- words by their lengths
 module _ (t : List ℕ) where
   pub null-empty : length t ≡ 0 → true ≡ oneOf t nulls
@@ -99,23 +96,23 @@ module _ (t : List ℕ) where
 
   pub null-tilde : length t ≡ 1 → same t (bytes "~") ≡ oneOf t nulls
   unfolding oneOf bytes
-  null-tilde e = rw (same-long t [] (λ q. omega arith), same-long t (bytes "null") (λ q. omega arith), same-long t (bytes "Null") (λ q. omega arith), same-long t (bytes "NULL") (λ q. omega arith)) (sym (or-false (same t (bytes "~"))))
+  null-tilde e = rw (same-length t [] (λ q. omega arith), same-length t (bytes "null") (λ q. omega arith), same-length t (bytes "Null") (λ q. omega arith), same-length t (bytes "NULL") (λ q. omega arith)) (sym (or-false (same t (bytes "~"))))
 
   pub null-word : length t ≡ 4 → (same t (bytes "null") || (same t (bytes "Null") || (same t (bytes "NULL") || false))) ≡ oneOf t nulls
   unfolding oneOf bytes
-  null-word e = rw (same-long t [] (λ q. omega arith), same-long t (bytes "~") (λ q. omega arith))
+  null-word e = rw (same-length t [] (λ q. omega arith), same-length t (bytes "~") (λ q. omega arith))
 
   pub null-other : (length t ≡ 0 → ⊥) → (length t ≡ 1 → ⊥) → (length t ≡ 4 → ⊥) → false ≡ oneOf t nulls
   unfolding oneOf bytes
-  null-other n m k = rw (same-long t [] n, same-long t (bytes "~") m, same-long t (bytes "null") k, same-long t (bytes "Null") k, same-long t (bytes "NULL") k)
+  null-other n m k = rw (same-length t [] n, same-length t (bytes "~") m, same-length t (bytes "null") k, same-length t (bytes "Null") k, same-length t (bytes "NULL") k)
 
   pub true-other : (length t ≡ 4 → ⊥) → false ≡ oneOf t trues
   unfolding oneOf bytes
-  true-other k = rw (same-long t (bytes "true") k, same-long t (bytes "True") k, same-long t (bytes "TRUE") k)
+  true-other k = rw (same-length t (bytes "true") k, same-length t (bytes "True") k, same-length t (bytes "TRUE") k)
 
   pub false-other : (length t ≡ 5 → ⊥) → false ≡ oneOf t falses
   unfolding oneOf bytes
-  false-other k = rw (same-long t (bytes "false") k, same-long t (bytes "False") k, same-long t (bytes "FALSE") k)
+  false-other k = rw (same-length t (bytes "false") k, same-length t (bytes "False") k, same-length t (bytes "FALSE") k)
 
 -- ---- plain text
 

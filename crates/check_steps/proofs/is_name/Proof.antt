@@ -1,12 +1,17 @@
 -- The invariant: the names from `at` on have the key where all of them have it. Assumes nothing.
 use borrow.Author.Needs.{needs}
 use mathlib.Core.Path.{_≡_, sym, _∙_}
+use mathlib.Core.Bool.{false}
 use mathlib.Core.List.{List}
 use mathlib.Core.Option.{some}
-use Prim.Native.Nat.{ℕ, _-_}
+use Prim.Native.Nat.{ℕ, _-_, _<_}
 use native.Mathlib.Omega.{arith}
-use lib.ListN.{length}
-use Rattle.item.proofs.Headers.{spans, no-header}
+use lib.ListN.{length, take, drop, length-take, length-drop}
+use Rattle.refusal.specs.Base.{same}
+use Rattle.item.specs.Places.{headerAt}
+use Rattle.item.specs.declared.Header.the-variants.{Item}
+use Rattle.item.proofs.Headers.{Spans, spans, no-header}
+use Rattle.item.proofs.Same.{same-length}
 use Rattle.check_steps.specs.Names.{filled}
 use Rattle.check_steps.proofs.Names.{Unread, unread-start, unread-end, unread-found, unread-on, unread-lost}
 use Rattle.check_steps.proofs.is_name.Statement.{statement}
@@ -23,30 +28,52 @@ returns c = λ ns e.
     let h = c .before .header-at in
     unread-lost (c .before .before .before .loop .inv ns e) (search needs) (no-header _ _ (h .result) (h .ensures) (c .match .keys2))
 
-sub-same-bytes : tie.Need-sub-same-bytes Inv-loop μ-loop
-sub-same-bytes c = spans _ _ (sym (c .before .head .given .1) ∙ c .before .before .before .header-at .ensures) .order
+-- a name
+module _ (c : tie.After-known-told Inv-loop μ-loop) where
+  abbrev names : List ℕ
+  names = c .before .before .before .before .before .before .before .before .args .names .now
 
-part-same-bytes-start : tie.Need-part-same-bytes-start Inv-loop μ-loop
-part-same-bytes-start c = spans _ _ (sym (c .before .head .given .1) ∙ c .before .before .before .header-at .ensures) .order
+  abbrev key : List ℕ
+  key = c .before .before .before .before .before .before .before .before .args .key .now
 
-part-same-bytes-end : tie.Need-part-same-bytes-end Inv-loop μ-loop
-part-same-bytes-end c = spans _ _ (sym (c .before .head .given .1) ∙ c .before .before .before .header-at .ensures) .fits
+  abbrev at : ℕ
+  at = c .before .before .before .before .before .loop .at
+
+  abbrev kind : ℕ
+  kind = c .before .head .given .0 .0
+
+  abbrev from : ℕ
+  from = c .before .head .given .0 .1 .0
+
+  abbrev to : ℕ
+  to = c .before .head .given .0 .1 .1 .0
+
+  item : Item kind from to ≡ headerAt names at
+  item = sym (c .before .head .given .1) ∙ c .before .before .before .header-at .ensures
+
+  here : Spans names at from to
+  here = spans names at item
+
+  forward : length names - to < length names - at
+  forward = omega (arith, here .start, here .order, here .fits)
+
+  other-length : (to - from ≡ length key → ⊥) → same key (take (to - from) (drop from names)) ≡ false
+  other-length n = same-length _ _ (λ e. n (sym (e ∙ simp (length-take, length-drop) (omega (arith, here .order, here .fits)))))
 
 returns-2 : tie.Need-returns-2 Inv-loop μ-loop
 returns-2 c = λ ns e.
-    let p = c .before .before .before in
-    unread-found (p .before .before .before .before .before .loop .inv ns e) (search needs) (sym (p .before .head .given .1) ∙ p .before .before .before .header-at .ensures) (sym (c .before .same-bytes .ensures) ∙ c .if1 .taken)
-
-loop-less : tie.Need-loop-less Inv-loop μ-loop
-loop-less c =
-    let p = c .before .before .before in
-    let i = spans _ _ (sym (p .before .head .given .1) ∙ p .before .before .before .header-at .ensures) in
-    omega (arith, i .start, i .order, i .fits)
+    let k = c .before .before .before .before in
+    unread-found (k .before .before .before .before .before .loop .inv ns e) (search needs) (item k) (sym (c .before .equal-bytes .ensures) ∙ c .if2 .taken)
 
 loop-again : tie.Need-loop-again Inv-loop μ-loop
 loop-again c = λ ns e.
-    let p = c .before .before .before in
-    unread-on (p .before .before .before .before .before .loop .inv ns e) (search needs) (sym (p .before .head .given .1) ∙ p .before .before .before .header-at .ensures) (sym (c .before .same-bytes .ensures) ∙ c .if1 .left)
+    let k = c .before .before .before .before in
+    unread-on (k .before .before .before .before .before .loop .inv ns e) (search needs) (item k) (sym (c .before .equal-bytes .ensures) ∙ c .if2 .left)
+
+loop-again-2 : tie.Need-loop-again-2 Inv-loop μ-loop
+loop-again-2 c = λ ns e.
+    let k = c .before in
+    unread-on (k .before .before .before .before .before .loop .inv ns e) (search needs) (item k) (other-length k (c .if1 .left))
 
 pub is-name-spec : {M : Type 1} → statement M
 is-name-spec =
@@ -58,11 +85,14 @@ is-name-spec =
     (λ c κs. search needs)
     (λ c. search needs)
     returns
-    sub-same-bytes
-    part-same-bytes-start
-    part-same-bytes-end
+    (λ c. here c .order)
+    (λ c. here (c .before) .order)
+    (λ c. here (c .before) .order)
+    (λ c. here (c .before) .fits)
     (λ c κs. search needs)
     returns-2
-    loop-less
+    (λ c. forward (c .before .before .before .before))
     loop-again
+    (λ c. forward (c .before))
+    loop-again-2
     (λ c. λ ns e. unread-end (c .before .loop .inv ns e) (search needs)))
