@@ -134,12 +134,14 @@ fn texts(part: usize) -> Vec<(&'static str, String)> {
     ]
 }
 
-/// 20 keys that begin with the same letters: of one length, and each the beginning of the next.
-fn long_keys() -> [(&'static str, Vec<String>); 2] {
-    let key = |last: String| "k".repeat(600 - last.len()) + &last;
+/// 20 long keys: alike but for their ends, each the beginning of the next, and alike but for their beginnings.
+fn long_keys() -> [(&'static str, Vec<String>); 3] {
+    let keys = |key: &dyn Fn(usize) -> String| (0..20).map(key).collect();
+    let same = "k".repeat(598);
     [
-        ("20 keys of 600 letters", (0..20).map(|i| key(format!("{i:02}"))).collect()),
-        ("20 keys of 600 to 619 letters", (0..20).map(|i| key(String::new()) + &"k".repeat(i)).collect()),
+        ("20 keys of 600 letters that begin alike", keys(&|i| format!("{same}{i:02}"))),
+        ("20 keys of 600 to 619 letters that begin alike", keys(&|i| format!("{same}kk{}", "k".repeat(i)))),
+        ("20 keys of 600 letters that end alike", keys(&|i| format!("{i:02}{same}"))),
     ]
 }
 
