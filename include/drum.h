@@ -85,7 +85,8 @@ uint32_t drum_field(const uint8_t *record, size_t record_len, size_t place, uint
 /* The step with this number, from 1 on. */
 uint32_t drum_step(const uint8_t *record, size_t record_len, size_t number, uint64_t *answer, size_t answer_len);
 
-/* A step with this id, or nothing. Of several with one id any may be found; an empty id finds nothing. */
+/* The step with this id, or nothing; of several the one with the smallest number. An empty id finds nothing, and the ids of the steps inside
+ * a `repeat` are not looked for. */
 uint32_t drum_step_by_id(const uint8_t *record, size_t record_len, const uint8_t *id, size_t id_len, uint64_t *answer, size_t answer_len);
 
 /* The value beside a key in the mapping that stands beside the command of the step with this number, or nothing: as `strokes` in

@@ -99,6 +99,20 @@ static void lookups(void) {
     expect(drum_times(record, n, 1, answer, DRUM_ANSWER) == DRUM_REFUSED && answer[1] == 38 && answer[3] == 1, "38 at step 1");
 }
 
+/* Of several steps with one id the first is found; inner steps have none. */
+static void shared_ids(void) {
+    static const char text[] = "schema: passportsim/scenario@1\nname: n\nsteps:\n  - repeat: {times: 2, steps: [{id: refrain, strike: 1}]}\n"
+                               "  - strike: 1\n    id: refrain2\n  - strike: 2\n    id: refrain\n  - strike: 3\n    id: refrain";
+    static uint8_t work[1000], record[1000];
+    uint32_t lines[10];
+    uint64_t answer[DRUM_ANSWER], third[DRUM_ANSWER];
+    drum_read_scenario((const uint8_t *)text, sizeof text - 1, work, sizeof work, record, sizeof record, lines, 10, answer, DRUM_ANSWER);
+    size_t n = answer[2];
+    drum_step(record, n, 3, third, DRUM_ANSWER);
+    expect(drum_step_by_id(record, n, (const uint8_t *)"refrain", 7, answer, DRUM_ANSWER) == DRUM_ACCEPTED && answer[1] == third[1]
+               && answer[2] == third[2], "the first of several steps with an id");
+}
+
 /* Every byte of a record changed in turn: each answer is a record's or 40. */
 static void damaged(void) {
     static uint8_t work[1000], record[1000];
@@ -134,6 +148,7 @@ int main(void) {
     exact();
     short_answers();
     lookups();
+    shared_ids();
     damaged();
     most_steps();
     if (!failed) printf("ok edges\n");

@@ -286,6 +286,10 @@ fn with_id(id: &str, value: Node) -> Node {
     Inner(19, parts.to_vec())
 }
 
+fn with_ids<'a>(ids: impl IntoIterator<Item = &'a str>) -> Vec<u8> {
+    with_steps(ids.into_iter().map(|id| with_id(id, null())).collect())
+}
+
 /// Ids that one step has, several, or none; the empty id.
 fn ids(cases: &mut Cases) {
     let rows = [
@@ -294,7 +298,7 @@ fn ids(cases: &mut Cases) {
     ];
     let sought = ["", "a", "b", "c", "ab", "abc", "abcd", "A", "id", "n", "strike", "\u{1f514}"];
     for row in rows {
-        let bytes = with_steps(row.split(' ').map(|id| with_id(id, null())).collect());
+        let bytes = with_ids(row.split(' '));
         for id in sought {
             cases.look_up(&bytes, id.as_bytes());
         }
@@ -303,6 +307,63 @@ fn ids(cases: &mut Cases) {
     }
     cases.look_up(&with_steps(Vec::new()), b"a");
     cases.look_up(&with_steps(Vec::new()), b"");
+}
+
+/// Ids that several steps have, of which the first is found: any two of a few, many, and the first and
+/// the last of a long programme; and ids that are the beginnings of others.
+fn shared_ids(cases: &mut Cases) {
+    for last in 1..5 {
+        for first in 0..last {
+            let id = |place| if place == first || place == last { "refrain" } else { "verse" };
+            cases.look_up(&with_ids((0..5).map(id)), b"refrain");
+        }
+    }
+    for before in [0, 1, 39] {
+        let id = |place| if place < before { "verse" } else { "refrain" };
+        cases.look_up(&with_ids((0..40).map(id)), b"refrain");
+    }
+    let verses: Vec<String> = (2..600).map(|number| format!("verse {number}")).collect();
+    let ends = |first, last| {
+        with_ids([first].into_iter().chain(verses.iter().map(String::as_str)).chain([last]))
+    };
+    for (first, last) in [("refrain", "refrain"), ("", "refrain"), ("refrains", "refrain")] {
+        cases.look_up(&ends(first, last), b"refrain");
+    }
+    cases.look_up(&ends("verse 599", "verse 2"), b"verse 2");
+    let long = |letters: usize| "k".repeat(letters);
+    let lengths = [601, 599, 600, 1, 600, 601];
+    let bytes = with_ids(lengths.map(long).iter().map(String::as_str));
+    for letters in [0, 1, 2, 599, 600, 601, 602] {
+        cases.look_up(&bytes, long(letters).as_bytes());
+    }
+}
+
+/// Ids of inner steps, which are part of a value: before an outer step with the same id, behind it, and
+/// alone; as the first key of the inner step and as a later one; inside a repeat of a repeat.
+fn inner_ids(cases: &mut Cases) {
+    let inner = |id| entries(vec![("id", string(id)), ("strike", int(1))]);
+    let later = |id| entries(vec![("strike", int(1)), ("name", string(id)), ("id", string(id))]);
+    let nested =
+        |id| entries(vec![("repeat", entries(vec![("steps", Inner(4, vec![inner(id)]))]))]);
+    let outer = || with_id("x", int(2));
+    for one in [inner("x"), later("x"), nested("x")] {
+        let repeated = || repeat(Inner(4, vec![one.clone(), inner("y")]));
+        let beside = || with_id("y", entries(vec![("id", string("x")), ("steps", one.clone())]));
+        let rows = [
+            vec![repeated()],
+            vec![repeated(), outer()],
+            vec![outer(), repeated()],
+            vec![repeated(), outer(), repeated(), outer()],
+            vec![beside()],
+            vec![beside(), repeated(), outer()],
+        ];
+        for steps in rows {
+            let bytes = with_steps(steps);
+            for id in ["x", "y", "id", ""] {
+                cases.look_up(&bytes, id.as_bytes());
+            }
+        }
+    }
 }
 
 /// Keys at each place of mappings, and keys that are not there.
@@ -441,6 +502,8 @@ fn main() {
     cases.end();
     cases.begin("lookups");
     ids(&mut cases);
+    shared_ids(&mut cases);
+    inner_ids(&mut cases);
     keys(&mut cases);
     long_keys(&mut cases);
     times(&mut cases);

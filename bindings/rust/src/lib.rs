@@ -122,7 +122,7 @@ pub fn step(record: &[u8], number: usize) -> Result<Item<'_>, Refusal> {
     found(record, told)?.ok_or(OUT_OF_RANGE)
 }
 
-/// The item of a step with this id.
+/// The item of the first step with this id; no step has an empty one.
 pub fn step_by_id<'a>(record: &'a [u8], id: &str) -> Result<Option<Item<'a>>, Refusal> {
     let told = ask(|answer, places| unsafe {
         raw::drum_step_by_id(record.as_ptr(), record.len(), id.as_ptr(), id.len(), answer, places)

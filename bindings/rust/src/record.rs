@@ -81,7 +81,7 @@ impl<'a> Record<'a> {
         self.fields().nth(7).into_iter().flat_map(Item::items).filter_map(Step::of)
     }
 
-    /// A step with this id.
+    /// The first step with this id; no step has an empty one.
     pub fn step_by_id(&self, id: &str) -> Result<Option<Step<'a>>, Refusal> {
         Ok(step_by_id(self.bytes, id)?.and_then(Step::of))
     }

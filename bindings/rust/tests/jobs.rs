@@ -59,6 +59,15 @@ fn fields_and_steps() {
 }
 
 #[test]
+fn shared_ids() {
+    let text = b"schema: passportsim/scenario@1\nname: n\nsteps: [{repeat: {steps: [{id: a, x: 1}]}}, {id: ab, x: 2}, {id: a, x: 3}, {id: a, x: 4}]";
+    let programme = read(text);
+    let record = Record::new(&programme.record).expect("a record");
+    assert_eq!(drum::step_by_id(record.bytes(), "a").map(|item| item.expect("a step")), drum::step(record.bytes(), 3));
+    assert_eq!(drum::step_by_id(record.bytes(), "x"), Ok(None));
+}
+
+#[test]
 fn values() {
     let programme = read(NOON);
     let record = Record::new(&programme.record).expect("a record");

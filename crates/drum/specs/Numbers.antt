@@ -35,9 +35,3 @@ told ns old = take (length old) ns ++ drop (length ns) old
 pub record Tells (ns old new : List ℕ) (r : ℕ) : Type 0 where
   pub result : r ≡ firstOf ns
   pub places : new ≡ told ns old
-
--- some answer is told that is allowed
-pub record TellsOne {A : Type 0} (f : A → List ℕ) (Allowed : Answer A → Type 0) (old new : List ℕ) (r : ℕ) : Type 0 where
-  pub answer : Answer A
-  pub allowed : Allowed answer
-  pub tells : Tells (numbers f answer) old new r

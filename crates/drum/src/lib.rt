@@ -10,8 +10,7 @@ ghost use Rattle.record.specs.Jobs as definition;
 ghost use Rattle.record.specs.Jobs.{lookupOf};
 ghost use Rattle.check_steps.specs.CheckSteps.{checkSteps};
 ghost use Rattle.lookups.specs.Lookups as lookup;
-ghost use Rattle.lookups.specs.Lookups.{StepById};
-ghost use Rattle.drum.specs.Numbers.{numbers, ofOne, ofFour, ofFound, firstOf, told, Tells, TellsOne};
+ghost use Rattle.drum.specs.Numbers.{numbers, ofOne, ofFour, ofFound, firstOf, told, Tells};
 use check_steps::StepsAnswer;
 use lookups::TimesAnswer;
 use record::Lookup;
@@ -177,11 +176,12 @@ pub extern "C" fn drum_step(record: &[u8], number: usize, answer: &mut [u64]) ->
     tell_lookup(answer, record::step(record, number))
 }
 
-// A step with this id: likewise. Which of several is found is free.
+// The first step with this id: likewise.
 #[no_mangle]
 pub extern "C" fn drum_step_by_id(record: &[u8], id: &[u8], answer: &mut [u64]) -> u32
-    ensures { λ r. ⌜ TellsOne ofFound (StepById (now («record» .entry)) (now (id .entry))) (now (answer .entry))
-        (now (answer .exit)) r ⌝ }
+    ensures result { λ r. ⌜ r ≡ firstOf (numbers ofFound (lookup.stepById (now («record» .entry)) (now (id .entry)))) ⌝ }
+    ensures answer { λ r. ⌜ now (answer .exit) ≡ told (numbers ofFound (lookup.stepById (now («record» .entry)) (now (id .entry))))
+        (now (answer .entry)) ⌝ }
 {
     tell_lookup(answer, lookups::step_by_id(record, id))
 }

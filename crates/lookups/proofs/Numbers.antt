@@ -2,11 +2,11 @@
 use mathlib.Core.Path.{_≡_, refl, sym, ap, _∙_, subst}
 use Prim.Native.Nat.{ℕ, zero, suc, _+_, _≤_, _<_}
 use native.Mathlib.Omega.{arith}
-use mathlib.Core.List.{List, [], _∷_, _++_, map}
+use mathlib.Core.List.{List, [], _∷_, map}
 use mathlib.Core.Bool.{Bool, true, false}
 use mathlib.Core.Option.{Option, none, some}
 use lib.Dec.{ltb}
-use lib.ListN.{length, take, getD, length-append}
+use lib.ListN.{length, getD}
 use borrow.Author.Tests.{ltb-true, ltb-false}
 use Rattle.refusal.specs.Base.{Answer, good, refused, _>>=_, given, maybe, bytes, limit}
 use Rattle.refusal.proofs.Tools.{bound, gave, refused≢good, bind-cong}
@@ -14,7 +14,7 @@ use Rattle.item.specs.Tree.{Yaml, Ranged}
 use Rattle.item.specs.Encode.{Bytes}
 use Rattle.entries.specs.Entries.{Stands}
 use Rattle.meaning.specs.Meaning.{Step, Meaning}
-use Rattle.meaning.specs.Record.{joined, stepItem}
+use Rattle.meaning.specs.Record.{stepItem}
 use Rattle.meaning.specs.Rules.{StepRules}
 use Rattle.value.proofs.Contents.{bytes-of}
 use Rattle.value.proofs.Levels.{ranged}
@@ -22,11 +22,11 @@ use Rattle.record.specs.Read.{meaningIn}
 use Rattle.record.specs.Jobs as job
 use Rattle.record.specs.Jobs.{Found, nothing, part, opened, checkRecord, partAt, numbered, stepsStart}
 use Rattle.record.proofs.Exact.{meaning-exact}
-use Rattle.record.proofs.Lookups.{Opened, length-steps, numbered-in, numbered-out}
+use Rattle.record.proofs.Lookups.{Opened, length-steps, closed, step-is, numbered-in, numbered-out}
 use Rattle.record.proofs.Answers.{never-nothing}
 use Rattle.record.proofs.StepPlaces.{record-small, steps-stand, Last}
-use Rattle.lookups.specs.Lookups.{nthStep, numberedStep, InMeaning, StepById, FoundId, valueIn, itemPart, valueByKey, timesIn, times}
-use Rattle.lookups.proofs.Places.{nth-stands, nth-kept}
+use Rattle.lookups.specs.Lookups.{numberOf, stepById, nthStep, numberedStep, valueIn, itemPart, valueByKey, timesIn, times}
+use Rattle.lookups.proofs.Places.{part-front, part-shift, nth-stands, nth-kept}
 use Rattle.lookups.proofs.Values.{FoundValue, in-step-found}
 
 -- a refusal is one of any answer
@@ -36,42 +36,34 @@ refusal-as {n = n} {l} {s} {n′} {l′} {s′} e = let x : n ≡ n′ = cc e in
 -- ---- all steps
 
 module _ {b : List ℕ} {n : ℕ} (o : Opened b n) where
-  pub in-meaning : (id : List ℕ) (r : Answer Found) {start end : ℕ} → Last o start end → FoundId id (start + 6) (o .meaning .steps) r → StepById b id r
-  unfolding opened given
-  in-meaning id r w f =
-      subst (λ (a : Option Meaning). InMeaning (given a 40 0 0) id r) (sym (o .is)) (subst (λ (i : ℕ). FoundId id i (o .meaning .steps) r) (w .begins) f)
+  pub by-id : (id : List ℕ) {r : Answer Found} {start end : ℕ} → Last o start end
+      → r ≡ maybe (numberOf id 1 (o .meaning .steps)) (good nothing) (numbered (start + 6) (map stepItem (o .meaning .steps))) → r ≡ stepById b id
+  unfolding stepById opened given maybe _>>=_
+  by-id id w e =
+      let m = o .meaning in
+      e ∙ ap (λ (i : ℕ). maybe (numberOf id 1 (m .steps)) (good nothing) (numbered i (map stepItem (m .steps)))) (w .begins) ∙ sym (rw (o .is) (go (numberOf id 1 (m .steps))))
+    where
+      go : (k : Option ℕ) → maybe k (good nothing) (job.step b) ≡ maybe k (good nothing) (numbered (stepsStart (o .meaning)) (map stepItem (o .meaning .steps)))
+      go none = refl
+      go (some k) = step-is o k
 
-pub id-refused : (b id : List ℕ) {n l s : ℕ} → refused n l s ≡ checkRecord b → StepById b id (refused n l s)
-unfolding checkRecord _>>=_
-id-refused b id {n} {l} {s} e = go (opened b) e
-  where
-    go : (o : Answer Meaning) → refused n l s ≡ (o >>= λ m. good (length (m .steps))) → InMeaning o id (refused n l s)
-    go (good m) e = refused≢good _ _ _ _ e
-    go (refused a k c) e = refusal-as e
+pub id-refused : (b id : List ℕ) {n l s : ℕ} → refused n l s ≡ checkRecord b → refused n l s ≡ stepById b id
+unfolding stepById
+id-refused b id e = closed b _ _ _ e _
 
 -- ---- the step with a number
 
 abbrev stepPart : ℕ × Step → Found
 stepPart x = part (x .0) (x .0 + length (stepItem (x .1)))
 
-shift : (p : List ℕ) (ps : List (List ℕ)) (i at : ℕ) → partAt (at + length p) ps i ≡ partAt at (p ∷ ps) (suc i)
-unfolding partAt joined
-shift p ps i at =
-    let a : at + length p + length (joined (take i ps)) ≡ at + length (p ++ joined (take i ps)) = omega (arith, length-append p (joined (take i ps))) in
-    let c : at + length p + length (joined (take (suc i) ps)) ≡ at + length (p ++ joined (take (suc i) ps)) = omega (arith, length-append p (joined (take (suc i) ps))) in
-    ap (λ (k : ℕ). part k (at + length p + length (joined (take (suc i) ps)))) a ∙ ap (part (at + length (p ++ joined (take i ps)))) c
-
 -- the step as `step` of `record` finds it
 nth-in : (ss : List Step) (i at : ℕ) → i < length ss → (x : ℕ × Step) × (nthStep at ss i ≡ some x) × (partAt at (map stepItem ss) i ≡ stepPart x)
-unfolding nthStep partAt joined
+unfolding nthStep
 nth-in [] i at h = absurd (omega arith)
-nth-in (s ∷ ss) zero at h =
-    let a : at + 0 ≡ at = omega arith in
-    let c : at + length (stepItem s ++ []) ≡ at + length (stepItem s) = omega (arith, length-append (stepItem s) []) in
-    ((at, s), refl, ap (λ (k : ℕ). part k (at + length (stepItem s ++ []))) a ∙ ap (part at) c)
+nth-in (s ∷ ss) zero at h = ((at, s), refl, part-front at (stepItem s) (map stepItem ss))
 nth-in (s ∷ ss) (suc i) at h =
     let r = nth-in ss i (at + length (stepItem s)) (omega arith) in
-    (r .0, r .1, sym (shift (stepItem s) (map stepItem ss) i at) ∙ r .2)
+    (r .0, r .1, sym (part-shift at (stepItem s) (map stepItem ss) i) ∙ r .2)
 
 nth-out : (ss : List Step) (i at : ℕ) → length ss ≤ i → nthStep at ss i ≡ none
 unfolding nthStep

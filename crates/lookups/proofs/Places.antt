@@ -1,18 +1,47 @@
--- A step by how many stand before it. Assumes nothing.
-use mathlib.Core.Path.{_≡_, ap, subst}
-use Prim.Native.Nat.{ℕ, zero, suc, _+_, _≤_}
+-- Where the parts stand that are one behind another, and a step by how many stand before it. Assumes nothing.
+use mathlib.Core.Path.{_≡_, refl, ap, _∙_, subst}
+use Prim.Native.Nat.{ℕ, zero, suc, _+_, _≤_, _<_}
 use native.Mathlib.Omega.{arith}
-use mathlib.Core.List.{List, [], _∷_, map}
+use mathlib.Core.List.{List, [], _∷_, _++_, map}
 use mathlib.Core.Option.{some, Option·some-injective}
-use lib.ListN.{length}
+use lib.ListN.{length, take, length-append}
 use Rattle.item.proofs.Exact.{none≢}
 use Rattle.entries.specs.Entries.{Stands}
 use Rattle.entries.proofs.Standing.{stands-left, stands-right, stands-is, stands-at}
 use Rattle.meaning.specs.Meaning.{Step}
 use Rattle.meaning.specs.Record.{joined, stepItem}
 use Rattle.meaning.specs.Rules.{Each}
+use Rattle.record.specs.Jobs.{part, partAt}
 use Rattle.record.proofs.StepPlaces.{step-long}
 use Rattle.lookups.specs.Lookups.{nthStep}
+
+-- ---- parts one behind another
+
+pub part-front : (at : ℕ) (p : List ℕ) (ps : List (List ℕ)) → partAt at (p ∷ ps) 0 ≡ part at (at + length p)
+unfolding partAt joined
+part-front at p ps =
+    let a : at + 0 ≡ at = omega arith in
+    let c : at + length (p ++ []) ≡ at + length p = omega (arith, length-append p []) in
+    ap (λ (k : ℕ). part k (at + length (p ++ []))) a ∙ ap (part at) c
+
+pub part-shift : (at : ℕ) (p : List ℕ) (ps : List (List ℕ)) (i : ℕ) → partAt (at + length p) ps i ≡ partAt at (p ∷ ps) (suc i)
+unfolding partAt joined
+part-shift at p ps i =
+    let a : at + length p + length (joined (take i ps)) ≡ at + length (p ++ joined (take i ps)) = omega (arith, length-append p (joined (take i ps))) in
+    let c : at + length p + length (joined (take (suc i) ps)) ≡ at + length (p ++ joined (take (suc i) ps)) = omega (arith, length-append p (joined (take (suc i) ps))) in
+    ap (λ (k : ℕ). part k (at + length p + length (joined (take (suc i) ps)))) a ∙ ap (part (at + length (p ++ joined (take i ps)))) c
+
+-- no two steps begin at one place
+pub place-one : (ss : List Step) (i j : ℕ) → i < length ss → j < length ss → length (joined (take i (map stepItem ss))) ≡ length (joined (take j (map stepItem ss))) → i ≡ j
+unfolding joined
+place-one [] i j h k e = absurd (omega arith)
+place-one (s ∷ ss) zero zero h k e = refl
+place-one (s ∷ ss) zero (suc j) h k e = absurd (omega (arith, length-append (stepItem s) (joined (take j (map stepItem ss))), step-long s))
+place-one (s ∷ ss) (suc i) zero h k e = absurd (omega (arith, length-append (stepItem s) (joined (take i (map stepItem ss))), step-long s))
+place-one (s ∷ ss) (suc i) (suc j) h k e =
+    ap suc (place-one ss i j (omega arith) (omega arith) (omega (arith, length-append (stepItem s) (joined (take i (map stepItem ss))), length-append (stepItem s) (joined (take j (map stepItem ss))))))
+
+-- ---- a step by how many stand before it
 
 -- what is known of a step from those that it stands among
 pub record Nth (s : List ℕ) (at i start : ℕ) (st : Step) : Type 0 where

@@ -2,12 +2,13 @@
 -- lookups by place and by number stand in `record`. Uses Base and Told of `refusal`; Tree and Encode of `item`; Meaning, Record and Rules
 -- of `meaning`; Jobs of `record`. Assumes nothing.
 use mathlib.Core.Path.{_≡_}
-use Prim.Native.Nat.{ℕ, zero, suc, _+_, _^_}
-use mathlib.Core.List.{List, [], _∷_}
-use mathlib.Core.Bool.{Bool, true, false, not, _&&_}
+use Prim.Native.Nat.{ℕ, zero, suc, _+_, _<_, _^_}
+use mathlib.Core.List.{List, [], _∷_, map}
+use mathlib.Core.Bool.{Bool, not, _&&_}
+use mathlib.Core.Logic.{_⊎_}
 use mathlib.Core.Option.{Option, none, some}
 use lib.Dec.{ltb}
-use lib.ListN.{length, take}
+use lib.ListN.{length, take, getD}
 use lib.IntN.{pos, negsuc}
 use Rattle.refusal.specs.Base.{Answer, good, refused, _>>=_, _>>_, if_then_else_, maybe, given, ensure, bytes, same, empty}
 use Rattle.refusal.specs.Told.{refusal}
@@ -16,43 +17,42 @@ use Rattle.item.specs.Encode.{encode}
 use Rattle.meaning.specs.Meaning.{Step, Meaning}
 use Rattle.meaning.specs.Record.{joined, textItem, stepParts, stepItem}
 use Rattle.meaning.specs.Rules.{Each}
-use Rattle.record.specs.Jobs.{Found, nothing, part, opened, stepsStart}
+use Rattle.record.specs.Jobs.{Found, nothing, part, opened, stepsStart, step}
 use Rattle.lookups.specs.declared.TimesAnswer.{TimesAnswer}
 use Rattle.lookups.specs.declared.TimesAnswer.the-variants.{Times, Refused}
 
--- ---- a step by its id
-
--- of steps one behind another from a place on, the one with so many before it, and where its item begins
-unfoldable pub nthStep : ℕ → List Step → ℕ → Option (ℕ × Step)
-nthStep at [] i = none
-nthStep at (s ∷ ss) zero = some (at, s)
-nthStep at (s ∷ ss) (suc i) = nthStep (at + length (stepItem s)) ss i
+-- ---- a step by its id: the one with the smallest number among those that have it (document 02, P1)
 
 -- no step has the empty id
 unfoldable pub hasId : List ℕ → Step → Bool
 hasId id s = not (empty id) && same (s .id) id
 
--- the part is the item of some step with this id
-pub record WithId (id : List ℕ) (at : ℕ) (ss : List Step) (start end : ℕ) : Type 0 where
-  pub before : ℕ
-  pub step : Step
-  pub stands : nthStep at ss before ≡ some (start, step)
-  pub ends : end ≡ start + length (stepItem step)
-  pub has-id : hasId id step ≡ true
+-- of steps that are numbered from a number on, the smallest number of one with this id
+unfoldable pub numberOf : List ℕ → ℕ → List Step → Option ℕ
+numberOf id n [] = none
+numberOf id n (s ∷ ss) = if hasId id s then some n else numberOf id (suc n) ss
 
--- which of several is found is free; none only where none has the id; 53 never
-abbrev pub FoundId : List ℕ → ℕ → List Step → Answer Found → Type 0
-FoundId id at ss (good (part start end)) = WithId id at ss start end
-FoundId id at ss (good nothing) = Each (λ s. hasId id s ≡ false) ss
-FoundId id at ss (refused n l s) = ⊥
+-- the step with that number, or nothing
+unfoldable pub stepById : List ℕ → List ℕ → Answer Found
+stepById b id = do
+  m ← opened b
+  maybe (numberOf id 1 (m .steps)) (good nothing) (step b)
 
--- 40 first
-abbrev pub InMeaning : Answer Meaning → List ℕ → Answer Found → Type 0
-InMeaning (good m) id r = FoundId id (stepsStart m) (m .steps) r
-InMeaning (refused n l s) id r = r ≡ refused n l s
+-- the step with so many before it has this id, which is not empty, and none before it has
+pub record First (id : List ℕ) (ss : List Step) (i : ℕ) : Type 0 where
+  pub not-empty : id ≡ [] → ⊥
+  pub within : i < length ss
+  pub has : getD (map (λ s. s .id) ss) i [] ≡ id
+  pub none-before : (j : ℕ) → j < i → getD (map (λ s. s .id) ss) j [] ≡ id → ⊥
 
-abbrev pub StepById : List ℕ → List ℕ → Answer Found → Type 0
-StepById b id r = InMeaning (opened b) id r
+-- what an id finds in the record of a meaning
+pub record FindsFirst (b : List ℕ) (m : Meaning) (id : List ℕ) : Type 0 where
+  -- a step exactly if it is the first
+  pub first : (i : ℕ) → First id (m .steps) i → stepById b id ≡ step b (suc i)
+  pub only : (i : ℕ) → stepById b id ≡ step b (suc i) → First id (m .steps) i
+  -- nothing exactly if the id is empty, or no step has it
+  pub absent : (id ≡ []) ⊎ Each (λ s. s .id ≡ id → ⊥) (m .steps) → stepById b id ≡ good nothing
+  pub nowhere : stepById b id ≡ good nothing → (id ≡ []) ⊎ Each (λ s. s .id ≡ id → ⊥) (m .steps)
 
 -- ---- a value by its key
 
@@ -79,6 +79,12 @@ valueIn key at s = inMapping key (at + 6 + length (joined (take 3 (stepParts s))
 -- a value's item as a part of the record, header included
 unfoldable pub itemPart : Option (ℕ × Yaml) → Found
 itemPart o = maybe o nothing (λ (x : ℕ × Yaml). part (x .0) (x .0 + length (encode (x .1))))
+
+-- of steps one behind another from a place on, the one with so many before it, and where its item begins
+unfoldable pub nthStep : ℕ → List Step → ℕ → Option (ℕ × Step)
+nthStep at [] i = none
+nthStep at (s ∷ ss) zero = some (at, s)
+nthStep at (s ∷ ss) (suc i) = nthStep (at + length (stepItem s)) ss i
 
 -- 53
 unfoldable pub numberedStep : Meaning → ℕ → Answer (ℕ × Step)

@@ -1,19 +1,19 @@
 // What a panel looks up in a record (document 01, section 6): a step by its id, a value by its key, and how often a step is repeated.
 // A record comes from outside, so every job takes any bytes, checks them itself and writes nothing.
 ghost use mathlib.Core.Path.{_≡_};
-ghost use mathlib.Core.List.{List};
-ghost use Prim.Native.Nat.{_+_, _≤_, _^_};
+ghost use Prim.Native.Nat.{ℕ, _+_, _≤_, _^_};
+ghost use mathlib.Core.List.{List, map};
 ghost use lib.ListN.{length};
-ghost use Rattle.refusal.specs.Base.{good};
+ghost use Rattle.refusal.specs.Base.{good, maybe};
 ghost use Rattle.item.specs.Tree.{Yaml, Entries, int, Ranged};
 ghost use Rattle.item.specs.Encode.{encode, signed};
 ghost use Rattle.entries.specs.Entries.{Stands, Holds};
 ghost use Rattle.meaning.specs.Meaning.{Step};
 ghost use Rattle.meaning.specs.Record.{stepItem};
-ghost use Rattle.record.specs.Jobs.{lookupOf};
+ghost use Rattle.record.specs.Jobs.{nothing, numbered, lookupOf};
 ghost use Rattle.record.specs.Contract.{StepsLie};
 ghost use Rattle.lookups.specs.Lookups as definition;
-ghost use Rattle.lookups.specs.Lookups.{hasId, FoundId, StepById, beside, inMapping, valueIn, itemPart, timesIn, timesOf};
+ghost use Rattle.lookups.specs.Lookups.{hasId, numberOf, beside, inMapping, valueIn, itemPart, timesIn, timesOf};
 use entries::Span;
 use entries::item_at;
 use entries::nth_item;
@@ -36,15 +36,16 @@ pub enum TimesAnswer {
     Refused(Refusal),
 }
 
-// Whether the step at `at` has this id, the second of its parts.
-fn has_id(s: &[u8], at: usize, id: &[u8]) -> bool
-    requires { ⌜ (at + 6 ≤ length (now s)) × (length (now s) ≤ 2 ^ 20) ⌝ }
-    ensures { λ r. ⌜ ((step : Step) → Stands (now (s .entry)) at (stepItem step) → r ≡ hasId (now (id .entry)) step) ⌝ }
+// Whether the step whose parts begin at `from` has this id, the second of them.
+fn has_id(s: &[u8], from: usize, id: &[u8]) -> bool
+    requires { ⌜ length (now s) ≤ 2 ^ 20 ⌝ }
+    ensures { λ r. ⌜ ((at : ℕ) (step : Step) → from ≡ at + 6 → Stands (now (s .entry)) at (stepItem step)
+        → r ≡ hasId (now (id .entry)) step) ⌝ }
 {
     if id.len() == 0 {
         return false;
     }
-    match nth_item(s, at + 6, 1) {
+    match nth_item(s, from, 1) {
         Span::At { start, end } => same_bytes(&s[start + 6..end], id),
         Span::Nowhere => false,
     }
@@ -54,7 +55,7 @@ fn has_id(s: &[u8], at: usize, id: &[u8]) -> bool
 fn find_id(s: &[u8], from: usize, to: usize, id: &[u8]) -> Lookup
     requires { ⌜ (to ≤ length (now s)) × (length (now s) ≤ 2 ^ 20) ⌝ }
     ensures { λ r. ⌜ ((steps : List Step) → StepsLie (now (s .entry)) from to steps
-        → FoundId (now (id .entry)) from steps (lookupOf r)) ⌝ }
+        → lookupOf r ≡ maybe (numberOf (now (id .entry)) 1 steps) (good nothing) (numbered from (map stepItem steps))) ⌝ }
 {
     let mut at = from;
     while at < to {
@@ -62,7 +63,8 @@ fn find_id(s: &[u8], from: usize, to: usize, id: &[u8]) -> Lookup
         let Span::At { start: _, end } = item else {
             return Lookup::Nothing;
         };
-        if has_id(s, at, id) {
+        let parts = at + 6;
+        if has_id(s, parts, id) {
             return Lookup::Found { start: at, end };
         }
         at = end;
@@ -70,9 +72,9 @@ fn find_id(s: &[u8], from: usize, to: usize, id: &[u8]) -> Lookup
     Lookup::Nothing
 }
 
-// The item of a step with this id.
+// The item of the first step with this id.
 pub fn step_by_id(record: &[u8], id: &[u8]) -> Lookup
-    ensures { λ r. ⌜ StepById (now («record» .entry)) (now (id .entry)) (lookupOf r) ⌝ }
+    ensures { λ r. ⌜ lookupOf r ≡ definition.stepById (now («record» .entry)) (now (id .entry)) ⌝ }
 {
     match check_record(record) {
         RecordAnswer::Refused(e) => Lookup::Refused(e),

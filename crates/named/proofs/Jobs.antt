@@ -8,7 +8,7 @@ use mathlib.Core.Option.{Option, none, some}
 use lib.Dec.{ltb, leb}
 use lib.IntN.{pos, negsuc}
 use lib.ListN.{length}
-use Rattle.refusal.specs.Base.{Answer, good, refused, _>>=_, bytes, same, oneOf}
+use Rattle.refusal.specs.Base.{Answer, good, refused, _>>=_, maybe, bytes, same, oneOf}
 use Rattle.item.specs.Tree.{Yaml, null, bool, int, str, seq, dict, Items, end, _▸_, Entries, done, pair, get}
 use Rattle.meaning.specs.Meaning.{Step, Meaning, Defaults, builtInSteps}
 use Rattle.meaning.specs.Record.{stepItem, fields, recordOf}
@@ -16,10 +16,10 @@ use Rattle.meaning.specs.Meanings.{topKeys, schema, document, knownKeys, scalar
 use Rattle.step_lines.specs.StepLines.{stepLines, headLine, tailLines}
 use Rattle.scenario.specs.Scenario.{Reading, readingOf, scenario, sizesOf}
 use Rattle.record.specs.Read.{meaningIn}
-use Rattle.record.specs.Jobs.{Found, opened, checkRecord, numbered, stepsStart, field, step}
+use Rattle.record.specs.Jobs.{nothing, opened, checkRecord, numbered, stepsStart, field, step}
 use Rattle.check_steps.specs.Names.{namesIn}
 use Rattle.check_steps.specs.CheckSteps.{known, repeated, allKnown, checkInner, checkRepeat, checkStep, checkFrom, checkSteps}
-use Rattle.lookups.specs.Lookups.{InMeaning, StepById, nthStep, numberedStep, valueIn, valueByKey, timesIn, times}
+use Rattle.lookups.specs.Lookups.{numberOf, stepById, nthStep, numberedStep, valueIn, valueByKey, timesIn, times}
 use Rattle.named.specs.Named.{lined, stepped}
 use Rattle.named.proofs.Counted.{Counts, never, refuses, plainly, stepwise, binds, next, ifs, givens, ensures}
 use Rattle.named.proofs.Trees.{admits, lines-then, treeOfs}
@@ -205,14 +205,13 @@ check-counted b lines names = binds (opens b)
 
 -- ---- the lookups of section 6
 
--- which step is found is free, but not what is refused
-pub id-counted : (b id : List ℕ) (a : Answer Found) → StepById b id a → Counts a
-id-counted b id a p = go (opened b) (opens b) a p
+pub id-counted : (b id : List ℕ) → Counts (stepById b id)
+unfolding stepById maybe
+id-counted b id = binds (opens b) λ m. go (numberOf id 1 (m .steps))
   where
-    go : (o : Answer Meaning) → Counts o → (a : Answer Found) → InMeaning o id a → Counts a
-    go (good m) h (good f) p = never
-    go (good m) h (refused n l s) p = absurd p
-    go (refused k i j) h a p = rw p (refuses k i j (h k i j refl))
+    go : (o : Option ℕ) → Counts (maybe o (good nothing) (step b))
+    go none = never
+    go (some n) = number-counted b n
 
 numbered-steps : (m : Meaning) (number : ℕ) → Counts (numberedStep m number)
 unfolding numberedStep lined stepped

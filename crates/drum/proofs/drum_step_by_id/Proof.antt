@@ -1,17 +1,12 @@
 -- The job, told. Assumes nothing.
 use borrow.Author.Needs.{needs}
-use Rattle.record.specs.Jobs.{lookupOf}
+use Rattle.drum.specs.Numbers.{ofFound}
+use Rattle.drum.proofs.Telling.{told-as}
 use Rattle.drum.proofs.drum_step_by_id.Statement.{statement}
 use Rattle.drum.proofs.drum_step_by_id.Tie as tie
 
 returns : tie.Need-returns
-returns c =
-    let j = c .before .before .before .step-by-id in
-    record {
-      answer = lookupOf (j .result);
-      allowed = j .ensures;
-      tells = c .before .before .tell-lookup .ensures;
-    }
+returns c = told-as ofFound (c .before .before .before .step-by-id .ensures) (c .before .before .tell-lookup .ensures)
 
 pub drum-step-by-id-spec : {M : Type 1} → statement M
 drum-step-by-id-spec =

@@ -5,7 +5,7 @@ use mathlib.Core.Path.{sym, ap, _∙_}
 use Rattle.record.specs.Jobs.{answerOf}
 use Rattle.record.proofs.Answers.{opened-as}
 use Rattle.record.proofs.StepPlaces.{nth-inside, record-small, steps-lie, steps-there}
-use Rattle.lookups.proofs.Numbers.{in-meaning, id-refused}
+use Rattle.lookups.proofs.Numbers.{by-id, id-refused}
 use Rattle.lookups.proofs.step_by_id.Statement.{statement}
 use Rattle.lookups.proofs.step_by_id.Tie as tie
 
@@ -24,7 +24,7 @@ returns-2 : tie.Need-returns-2
 returns-2 c =
     let o = opened-as _ (λ i. omega (arith, c .before .before .before .before .before .before .before .before .before .shared-slice-known .given i)) (c .before .before .before .before .before .enum-told .given .1) (c .before .before .before .before .before .before .before .check-record .ensures) in
     let w = steps-lie o (sym (c .before .before .start .given .1) ∙ c .before .before .before .before .nth-item .ensures) in
-    in-meaning o _ _ w (c .find-id .ensures _ (w .lie))
+    by-id o _ w (c .find-id .ensures _ (w .lie))
 
 returns-3 : tie.Need-returns-3
 returns-3 c =

@@ -9,7 +9,7 @@ returns : tie.Need-returns
 returns c =
     let a = c .before .before .before .args in
     let r = c .step-by-id in
-    lookup-names (r .result) (id-counted (a .«record» .now) (a .id .now) _ (r .ensures))
+    lookup-names (r .result) (rw (r .ensures) (id-counted (a .«record» .now) (a .id .now)))
 
 pub of-step-by-id-spec : {M : Type 1} → statement M
 of-step-by-id-spec = tie.close (tie.spec (λ c κs. search needs) returns)
