@@ -47,8 +47,9 @@ module _ {s : List ℕ} {at from : ℕ} (st : Step) (q : from ≡ at + 6) (h : S
 
 -- ---- the search
 
-abbrev Answered : List ℕ → ℕ → List Step → Answer Found
-Answered id from ss = maybe (numberOf id 1 ss) (good nothing) (numbered from (map stepItem ss))
+-- the first with the id, of steps from a place on
+abbrev pub firstWith : List ℕ → ℕ → List Step → Answer Found
+firstWith id from ss = maybe (numberOf id 1 ss) (good nothing) (numbered from (map stepItem ss))
 
 -- the steps that are left, behind some that do not have the id
 pub record Left (s id : List ℕ) (from to at : ℕ) (ss : List Step) : Type 0 where
@@ -69,7 +70,7 @@ ids-start {from = from} ss h = record {
   place = λ i. let e : i ≡ 0 + i = omega arith in ap (partAt from (map stepItem ss)) e;
 }
 
-pub ids-end : {s id : List ℕ} {from to at : ℕ} {ss : List Step} → Left s id from to at ss → to ≤ at → good nothing ≡ Answered id from ss
+pub ids-end : {s id : List ℕ} {from to at : ℕ} {ss : List Step} → Left s id from to at ss → to ≤ at → good nothing ≡ firstWith id from ss
 unfolding numberOf maybe
 ids-end {id = id} l h = sym (rw (sym (l .number) ∙ ap (numberOf id (suc (l .before))) (none-left (l .rest) h (l .lie))))
 
@@ -83,7 +84,7 @@ module _ {s id : List ℕ} {from to at end : ℕ} {ss : List Step} (l : Left s i
   place-on : (i : ℕ) → partAt at (map stepItem (first .step ∷ first .others)) i ≡ partAt from (map stepItem ss) (l .before + i)
   place-on i = ap (λ (rest : List Step). partAt at (map stepItem rest) i) (sym (first .is)) ∙ l .place i
 
-  pub id-found : hasId id (first .step) ≡ true → good (part at end) ≡ Answered id from ss
+  pub id-found : hasId id (first .step) ≡ true → good (part at end) ≡ firstWith id from ss
   unfolding numberOf maybe if_then_else_
   id-found t =
       let n : l .before + 0 ≡ l .before = omega arith in

@@ -27,6 +27,7 @@ use Rattle.record.proofs.Answers.{never-nothing}
 use Rattle.record.proofs.StepPlaces.{record-small, steps-stand, Last}
 use Rattle.lookups.specs.Lookups.{numberOf, stepById, nthStep, numberedStep, valueIn, itemPart, valueByKey, timesIn, times}
 use Rattle.lookups.proofs.Places.{part-front, part-shift, nth-stands, nth-kept}
+use Rattle.lookups.proofs.Ids.{firstWith}
 use Rattle.lookups.proofs.Values.{FoundValue, in-step-found}
 
 -- a refusal is one of any answer
@@ -36,12 +37,9 @@ refusal-as {n = n} {l} {s} {n′} {l′} {s′} e = let x : n ≡ n′ = cc e in
 -- ---- all steps
 
 module _ {b : List ℕ} {n : ℕ} (o : Opened b n) where
-  pub by-id : (id : List ℕ) {r : Answer Found} {start end : ℕ} → Last o start end
-      → r ≡ maybe (numberOf id 1 (o .meaning .steps)) (good nothing) (numbered (start + 6) (map stepItem (o .meaning .steps))) → r ≡ stepById b id
+  pub by-id : (id : List ℕ) {r : Answer Found} {start end : ℕ} → Last o start end → r ≡ firstWith id (start + 6) (o .meaning .steps) → r ≡ stepById b id
   unfolding stepById opened given maybe _>>=_
-  by-id id w e =
-      let m = o .meaning in
-      e ∙ ap (λ (i : ℕ). maybe (numberOf id 1 (m .steps)) (good nothing) (numbered i (map stepItem (m .steps)))) (w .begins) ∙ sym (rw (o .is) (go (numberOf id 1 (m .steps))))
+  by-id id w e = e ∙ ap (λ (i : ℕ). firstWith id i (o .meaning .steps)) (w .begins) ∙ sym (rw (o .is) (go (numberOf id 1 (o .meaning .steps))))
     where
       go : (k : Option ℕ) → maybe k (good nothing) (job.step b) ≡ maybe k (good nothing) (numbered (stepsStart (o .meaning)) (map stepItem (o .meaning .steps)))
       go none = refl
