@@ -42,8 +42,8 @@ module _ {s : List ℕ} {at from : ℕ} (st : Step) (q : from ≡ at + 6) (h : S
       let i : Stands s (start + 6) (st .id) = item-content 3 (st .id) (p .stands) in
       ap (λ (t : List ℕ). same t (b ∷ id)) (stands-part i (end - (start + 6)) (omega (arith, p .ends, item-length 3 (st .id))))
 
-  pub id-there : {X : Type 0} → Nowhere ≡ nthItem s from 1 → X
-  id-there e = no-part st h w 1 (omega arith) (e ∙ ap (λ (k : ℕ). nthItem s k 1) q)
+  pub second-there : {X : Type 0} → Nowhere ≡ nthItem s from 1 → X
+  second-there e = no-part st h w 1 (omega arith) (e ∙ ap (λ (k : ℕ). nthItem s k 1) q)
 
 -- ---- the search
 
