@@ -99,7 +99,7 @@ static void lookups(void) {
     expect(drum_times(record, n, 1, answer, DRUM_ANSWER) == DRUM_REFUSED && answer[1] == 38 && answer[3] == 1, "38 at step 1");
 }
 
-/* Of several steps with one id the first is found; inner steps have none. */
+/* Of several steps with one id the first is found; those inside a `repeat` are passed over. */
 static void shared_ids(void) {
     static const char text[] = "schema: passportsim/scenario@1\nname: n\nsteps:\n  - repeat: {times: 2, steps: [{id: refrain, strike: 1}]}\n"
                                "  - strike: 1\n    id: refrain2\n  - strike: 2\n    id: refrain\n  - strike: 3\n    id: refrain";
