@@ -77,6 +77,7 @@ def is_plain(ctx, t):
 # ---- the core schema (10.3.2)
 import re
 R_INT = re.compile(rb'[-+]?[0-9]+\Z')
+R_JSON = re.compile(rb'-?(0|[1-9][0-9]*)\Z')
 R_OCT = re.compile(rb'0o[0-7]+\Z')
 R_HEX = re.compile(rb'0x[0-9a-fA-F]+\Z')
 R_FLOAT = re.compile(rb'[-+]?(\.[0-9]+|[0-9]+(\.[0-9]*)?)([eE][-+]?[0-9]+)?\Z')
@@ -91,7 +92,7 @@ def core(t):
     if t in NULLS: return None, []
     if t in TRUES: return True, []
     if t in FALSES: return False, []
-    if R_INT.match(t): return int(t), []
+    if R_INT.match(t): return int(t), [] if R_JSON.match(t) else ['zero-or-plus']
     if R_OCT.match(t): return int(t[2:], 8), ['octal']
     if R_HEX.match(t): return int(t[2:], 16), ['hexadecimal']
     if R_FLOAT.match(t) or R_INF.match(t): return ('float', t), []

@@ -5,8 +5,8 @@ import yaml as pyyaml
 
 
 def ask_rust(prog, texts):
-    """for each text the item that the Rust reads, in hexadecimal, or None"""
-    out = subprocess.run([prog, 'tree'], input=b''.join(struct.pack('<I', len(t)) + t for t in texts), stdout=subprocess.PIPE, check=True).stdout.decode().split('\n')[:-1]
+    """for each text the item that the Rust reads, in hexadecimal, or None; where a request changes a text, what the changed copy reads"""
+    out = subprocess.run([prog, '--requests', 'tree'], input=b''.join(struct.pack('<I', len(t)) + t for t in texts), stdout=subprocess.PIPE, check=True).stdout.decode().split('\n')[:-1]
     assert len(out) == len(texts)
     return [l[3:] if l.startswith('ok ') else None for l in out]
 

@@ -16,8 +16,12 @@ mod messages;
 #[allow(dead_code)]
 mod receipt;
 mod reply;
-// The unchanged text with `inside.rs` behind it, put together by the build.
-#[path = "../target/scenario.rs"]
+#[allow(dead_code)]
+mod requests;
+// The unchanged text with `inside.rs` behind it, put together by the build; or, in the program
+// `changed`, the copy that calls the rules of `requests`.
+#[cfg_attr(not(changed), path = "../target/scenario.rs")]
+#[cfg_attr(changed, path = "../target/changed.rs")]
 #[allow(dead_code, unused_variables)]
 mod scenario;
 mod writing;
@@ -30,7 +34,7 @@ use limits::Limits;
 use reply::Mode;
 
 const USAGE: &str = "\
-usage: answer [--paper] [--show] MODE < texts
+usage: answer [--requests | --paper] [--show | --by] MODE < texts
        answer check-cases FILE ['as stored']
        answer fill-cases FILE
 modes: lines keyend flow tree scenario `check NAME,NAME..` times drumread memory";
@@ -51,9 +55,13 @@ fn main() -> ExitCode {
         ["check-cases", file, as_told] => cases::check(file, as_told),
         ["fill-cases", file] => cases::fill(file),
         _ => {
-            let paper = take(&mut words, "--paper");
-            let show = take(&mut words, "--show");
-            Answerer::new(&words, paper, show)
+            let given = Given {
+                paper: take(&mut words, "--paper"),
+                requests: take(&mut words, "--requests"),
+                show: take(&mut words, "--show"),
+                by: take(&mut words, "--by"),
+            };
+            Answerer::new(&words, &given)
                 .and_then(|mut answerer| answer_stream(&mut answerer).map_err(|e| e.to_string()))
                 .map_err(|error| format!("{error}\n{USAGE}"))
         }
@@ -73,23 +81,36 @@ fn take(words: &mut Vec<&str>, option: &str) -> bool {
     words.len() < before
 }
 
+/// The options.
+#[derive(Default)]
+struct Given {
+    paper: bool,
+    requests: bool,
+    show: bool,
+    by: bool,
+}
+
 /// Answers texts in one mode.
 struct Answerer {
     mode: Mode,
     asker: Asker,
     limits: Option<Limits>,
     show: bool,
+    by: bool,
 }
 
 impl Answerer {
-    fn new(words: &[&str], paper: bool, show: bool) -> Result<Answerer, String> {
+    fn new(words: &[&str], given: &Given) -> Result<Answerer, String> {
         let mode = Mode::from_words(words)?;
-        let sized: &[&str] = if paper { &["--sized"] } else { &[] };
+        let sized: &[&str] = if given.paper { &["--sized"] } else { &[] };
+        let words = [sized, words].concat();
+        let requests = given.paper || given.requests || given.by;
         Ok(Answerer {
             mode,
-            asker: Asker::new(&[sized, words].concat()),
-            limits: paper.then(Limits::new),
-            show,
+            asker: if requests { Asker::with_requests(&words) } else { Asker::new(&words) },
+            limits: given.paper.then(Limits::new),
+            show: given.show,
+            by: given.by,
         })
     }
 
@@ -99,9 +120,12 @@ impl Answerer {
     }
 
     fn finish(&mut self, text: &[u8], answer: Answer) -> String {
+        if self.by {
+            return if answer.changed { "changed" } else { "rust" }.to_owned();
+        }
         let line = match &mut self.limits {
             Some(limits) => limits.paper(&self.mode, text, &answer),
-            None => answer.rust,
+            None => answer.told,
         };
         if self.show { self.shown(&line) } else { line }
     }

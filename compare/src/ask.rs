@@ -10,6 +10,7 @@ use std::time::Duration;
 
 use crate::memory;
 use crate::reply::{Mode, reply, size};
+use crate::requests;
 use crate::writing::{read_text, write_text};
 
 /// No text of the lengths in use takes a second; memory runs out far sooner than this.
@@ -21,15 +22,24 @@ const STACK: usize = 1 << 30;
 /// The first argument of a child.
 pub const CHILD: &str = "--child";
 
-/// What the child says of one text: the answer and, if the tree was read, its levels and bytes.
+/// What the child says of one text: the answer; if the tree was read, its levels and bytes; and
+/// whether a request's rule changed something in the reading.
 #[derive(Clone)]
 pub struct Answer {
-    pub rust: String,
+    pub told: String,
     pub size: Option<(usize, usize)>,
+    pub changed: bool,
+}
+
+/// The Rust and, if the requests of document 02 count, the copy with their rules beside it.
+pub struct Asker {
+    rust: Reader,
+    changed: Option<Reader>,
 }
 
 /// A child for one mode, started when first asked.
-pub struct Asker {
+struct Reader {
+    program: &'static str,
     words: Vec<String>,
     running: Option<Running>,
 }
@@ -42,16 +52,50 @@ struct Running {
 
 impl Asker {
     pub fn new(mode: &[&str]) -> Asker {
-        Asker { words: mode.iter().map(|word| (*word).to_owned()).collect(), running: None }
+        Asker { rust: Reader::new("answer", mode), changed: None }
     }
 
-    /// An answer for each text.
+    pub fn with_requests(mode: &[&str]) -> Asker {
+        Asker { changed: Some(Reader::new("changed", mode)), ..Asker::new(mode) }
+    }
+
+    /// An answer for each text: the Rust's, but for a text that a rule changes the copy's. On all
+    /// others the two agree, or the copy has more than the rules in it.
     pub fn ask<T: AsRef<[u8]> + Sync>(&mut self, texts: &[T]) -> Vec<Answer> {
+        let Asker { rust, changed: Some(changed) } = self else {
+            return self.rust.ask(texts);
+        };
+        let (theirs, copys) = thread::scope(|scope| {
+            let theirs = scope.spawn(|| rust.ask(texts));
+            let copys = changed.ask(texts);
+            (theirs.join().expect("the Rust's answers"), copys)
+        });
+        theirs
+            .into_iter()
+            .zip(copys)
+            .map(|(rust, changed)| {
+                if changed.changed {
+                    return changed;
+                }
+                assert_eq!(rust.told, changed.told, "a text that no rule changes");
+                rust
+            })
+            .collect()
+    }
+}
+
+impl Reader {
+    fn new(program: &'static str, mode: &[&str]) -> Reader {
+        let words = mode.iter().map(|word| (*word).to_owned()).collect();
+        Reader { program, words, running: None }
+    }
+
+    fn ask<T: AsRef<[u8]> + Sync>(&mut self, texts: &[T]) -> Vec<Answer> {
         let mut answers = Vec::with_capacity(texts.len());
         while answers.len() < texts.len() {
             let mut running = match self.running.take() {
                 Some(running) => running,
-                None => start(&self.words).expect("a child process"),
+                None => start(self.program, &self.words).expect("a child process"),
             };
             let rest = &texts[answers.len()..];
             let Running { child, texts: to, answers: from } = &mut running;
@@ -80,12 +124,13 @@ impl Asker {
                 None => self.running = Some(running),
                 Some(word) => {
                     let status = running.child.wait().expect("the child's status");
+                    let changed = status.code() == Some(memory::CHANGED_OVER_CAP);
                     let word = match status.code() {
-                        Some(memory::OVER_CAP) => "endless",
+                        Some(memory::OVER_CAP | memory::CHANGED_OVER_CAP) => "endless",
                         _ if word == "stalled" => word,
                         _ => "crashed",
                     };
-                    answers.push(Answer { rust: word.to_owned(), size: None });
+                    answers.push(Answer { told: word.to_owned(), size: None, changed });
                 }
             }
         }
@@ -93,7 +138,7 @@ impl Asker {
     }
 }
 
-impl Drop for Asker {
+impl Drop for Reader {
     fn drop(&mut self) {
         if let Some(Running { mut child, texts, .. }) = self.running.take() {
             drop(texts);
@@ -102,8 +147,9 @@ impl Drop for Asker {
     }
 }
 
-fn start(words: &[String]) -> io::Result<Running> {
-    let mut child = Command::new(std::env::current_exe()?)
+/// A program that stands beside this one.
+fn start(program: &str, words: &[String]) -> io::Result<Running> {
+    let mut child = Command::new(std::env::current_exe()?.with_file_name(program))
         .arg(CHILD)
         .args(words)
         .stdin(Stdio::piped())
@@ -122,12 +168,14 @@ fn start(words: &[String]) -> io::Result<Running> {
     Ok(Running { child, texts, answers })
 }
 
-/// A line of the child: levels, bytes (or two dashes), answer.
+/// A line of the child: whether a rule changed something, levels, bytes (or two dashes), answer.
 fn answer_of(line: &str) -> Answer {
-    let mut parts = line.splitn(3, ' ');
+    let mut parts = line.splitn(4, ' ');
+    let changed = parts.next() == Some("true");
     let levels = parts.next().unwrap_or("").parse();
     let bytes = parts.next().unwrap_or("").parse();
-    Answer { rust: parts.next().unwrap_or("crashed").to_owned(), size: levels.ok().zip(bytes.ok()) }
+    let told = parts.next().unwrap_or("crashed").to_owned();
+    Answer { told, size: levels.ok().zip(bytes.ok()), changed }
 }
 
 /// The child itself. With `sized` it tells the tree's size too.
@@ -149,16 +197,18 @@ pub fn run_child(mode: Mode, sized: bool) {
 
 fn child_line(mode: &Mode, sized: bool, text: &[u8]) -> String {
     let Ok(text) = str::from_utf8(text) else {
-        return "- - no-utf8\n".to_owned();
+        return "false - - no-utf8\n".to_owned();
     };
     memory::allow(memory::enough_for(text));
+    requests::begin();
     let reading = || {
         let size = if sized { size(text) } else { None };
         let rust = reply(mode, text);
+        let changed = requests::changed();
         match size {
-            Some((levels, bytes)) => format!("{levels} {bytes} {rust}\n"),
-            None => format!("- - {rust}\n"),
+            Some((levels, bytes)) => format!("{changed} {levels} {bytes} {rust}\n"),
+            None => format!("{changed} - - {rust}\n"),
         }
     };
-    std::panic::catch_unwind(reading).unwrap_or_else(|_| "- - panicked\n".to_owned())
+    std::panic::catch_unwind(reading).unwrap_or_else(|_| "false - - panicked\n".to_owned())
 }

@@ -5,8 +5,8 @@
 use std::collections::HashMap;
 use std::fs;
 
-use crate::Answerer;
 use crate::writing::unescape;
+use crate::{Answerer, Given};
 
 struct Case {
     mode: String,
@@ -52,7 +52,10 @@ fn answers(lines: &[Line]) -> Result<Vec<String>, String> {
         let text = unescape(&case.text)?;
         if !answerers.contains_key(&case.mode) {
             let words: Vec<&str> = case.mode.split(' ').collect();
-            answerers.insert(case.mode.clone(), Answerer::new(&words, true, true)?);
+            answerers.insert(
+                case.mode.clone(),
+                Answerer::new(&words, &Given { paper: true, show: true, ..Given::default() })?,
+            );
         }
         let answerer = answerers.get_mut(&case.mode).expect("just put there");
         found.extend(answerer.answer(&[text]));

@@ -23,12 +23,12 @@ pub struct Limits {
 
 impl Limits {
     pub fn new() -> Limits {
-        Limits { trees: Asker::new(&["--sized", "tree"]) }
+        Limits { trees: Asker::with_requests(&["--sized", "tree"]) }
     }
 
     /// Document 01's answer, made of the Rust's.
     pub fn paper(&mut self, mode: &Mode, text: &[u8], answer: &Answer) -> String {
-        let rust = answer.rust.clone();
+        let rust = answer.told.clone();
         if matches!(mode, Mode::KeyEnd | Mode::Flow | Mode::Memory) {
             return rust;
         }
@@ -104,7 +104,7 @@ fn is_deep(answer: &Answer) -> bool {
 }
 
 fn is_endless(answer: &Answer) -> bool {
-    answer.rust == "endless"
+    answer.told == "endless"
 }
 
 fn numbers(entries: &[Entry], chosen: impl Fn(&Entry) -> bool) -> Vec<usize> {

@@ -5,8 +5,12 @@
 use std::alloc::{GlobalAlloc, Layout, System};
 use std::sync::atomic::{AtomicUsize, Ordering::Relaxed};
 
-/// The status of a child that passed its cap.
+use crate::requests;
+
+/// The status of a child that passed its cap, and of one in which a request's rule had changed
+/// something by then.
 pub const OVER_CAP: i32 = 99;
+pub const CHANGED_OVER_CAP: i32 = 98;
 
 static USED: AtomicUsize = AtomicUsize::new(0);
 static START: AtomicUsize = AtomicUsize::new(0);
@@ -28,7 +32,8 @@ fn add(bytes: usize) {
     if used > MOST.load(Relaxed) {
         MOST.store(used, Relaxed);
         if used > CAP.load(Relaxed) {
-            unsafe { _exit(OVER_CAP) }
+            let status = if requests::changed() { CHANGED_OVER_CAP } else { OVER_CAP };
+            unsafe { _exit(status) }
         }
     }
 }

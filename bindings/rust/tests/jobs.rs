@@ -100,8 +100,19 @@ fn commands() {
 
 #[test]
 fn one_record_for_one_meaning() {
-    let other = b"steps: [{a: 007}]\n# c\nname: 'n'\nschema: passportsim/scenario@1";
-    assert_eq!(read(b"schema: passportsim/scenario@1\nname: n\nsteps:\n  - a: 7").record, read(other).record);
+    let other = b"steps: [{a: -0}]\n# c\nname: 'n'\nschema: passportsim/scenario@1";
+    assert_eq!(read(b"schema: passportsim/scenario@1\nname: n\nsteps:\n  - a: 0").record, read(other).record);
+}
+
+#[test]
+fn zeros_in_front() {
+    let programme = read(b"schema: passportsim/scenario@1\nname: n\nsteps: [{strike: {1: 1, 01: 01, +1: -0}}]");
+    let record = Record::new(&programme.record).expect("a record");
+    let value = |key| record.value_by_key(1, key).map(|item| item.and_then(drum::Item::value));
+    assert!(matches!(value("1"), Ok(Some(Value::Integer(1)))));
+    assert!(matches!(value("01"), Ok(Some(Value::String("01")))));
+    assert!(matches!(value("+1"), Ok(Some(Value::Integer(0)))));
+    assert!(matches!(value("001"), Ok(None)));
 }
 
 #[test]

@@ -4,3 +4,4 @@ pub mod NumberLaws
 pub mod QuoteLaws
 pub mod Open
 pub mod Copied
+pub mod Written

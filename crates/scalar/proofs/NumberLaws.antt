@@ -5,7 +5,7 @@ use native.Mathlib.Nat.{pow-suc}
 use native.Mathlib.Numerals.{add-one}
 use native.Mathlib.Omega.{arith}
 use mathlib.Core.List.{List, [], _∷_, _++_}
-use mathlib.Core.Bool.{Bool, true, false, not}
+use mathlib.Core.Bool.{Bool, true, false, _&&_, not, and-true, and-false}
 use mathlib.Core.Option.{Option, none, some}
 use lib.Dec.{ltb, eqb}
 use lib.ListN.{length, set, drop, getD, drop-of-length-le, length-append}
@@ -16,7 +16,7 @@ use Rattle.utf8.specs.Utf8.{_‥_}
 use Rattle.utf8.proofs.Ranges.{inside, below, above}
 use Rattle.item.specs.Encode.{signed}
 use Rattle.item.proofs.Runs.{sets-before}
-use Rattle.scalar.specs.Scalars.{isDigit, allDigits, decimalFrom, digits, positive, negative, integer, decimalOf, intText}
+use Rattle.scalar.specs.Scalars.{isDigit, allDigits, decimalFrom, zeroFirst, digits, positive, negative, integer, decimalOf, intText}
 use Rattle.scalar.specs.Code.{bounded, minused}
 
 -- ---- digits that are read
@@ -25,7 +25,7 @@ use Rattle.scalar.specs.Code.{bounded, minused}
 unfoldable pub digitsFrom : ℕ → List ℕ → Option ℕ
 digitsFrom n s = if allDigits s then some (decimalFrom n s) else none
 
-decimal-le : (n : ℕ) (s : List ℕ) → n ≤ decimalFrom n s
+pub decimal-le : (n : ℕ) (s : List ℕ) → n ≤ decimalFrom n s
 unfolding decimalFrom
 decimal-le n [] = omega arith
 decimal-le n (b ∷ s) = omega (arith, decimal-le (n * 10 + (b - ch "0")) s)
@@ -39,14 +39,26 @@ from-over neg limit n s h = go (allDigits s)
     go true = rw (lt-leb (decimalFrom n s) limit (omega (arith, decimal-le n s)))
     go false = refl
 
+pub digits-zero : (s : List ℕ) → zeroFirst s ≡ true → digits s ≡ none
+unfolding digits if_then_else_
+digits-zero s z = rw (z, and-false (not (empty s) && allDigits s))
+
 module _ (s : List ℕ) (i : ℕ) where
+  pub zero-one : i < length s → length s ≤ suc i → zeroFirst (drop i s) ≡ false
+  unfolding zeroFirst
+  zero-one h e = rw (drop-cons s i 0 h, drop-of-length-le s {i = suc i} e)
+
+  pub zero-more : suc i < length s → zeroFirst (drop i s) ≡ eqb (getD s i 0) (ch "0")
+  unfolding zeroFirst
+  zero-more h = rw (drop-cons s i 0 (omega arith), drop-cons s (suc i) 0 h)
+
   pub digits-none : length s ≤ i → digits (drop i s) ≡ none
   unfolding digits if_then_else_ empty
   digits-none h = rw (drop-of-length-le s {i = i} h)
 
-  pub digits-start : i < length s → digits (drop i s) ≡ digitsFrom 0 (drop i s)
+  pub digits-start : i < length s → zeroFirst (drop i s) ≡ false → digits (drop i s) ≡ digitsFrom 0 (drop i s)
   unfolding digits digitsFrom empty
-  digits-start h = rw (drop-cons s i 0 h)
+  digits-start h z = rw (z, and-true (not (empty (drop i s)) && allDigits (drop i s)), drop-cons s i 0 h)
 
   pub from-end : (neg : Bool) (limit n : ℕ) → length s ≤ i → n ≤ limit → some (signed neg n) ≡ bounded neg limit (digitsFrom n (drop i s))
   unfolding bounded digitsFrom if_then_else_ allDigits decimalFrom
@@ -91,15 +103,10 @@ unfolding integer if_then_else_
 int-minus [] z e = absurd (z refl)
 int-minus (b ∷ s) z e = rw (eq-eqb b (ch "-") e) (negative-bounded (digits s))
 
-pub int-plus : (s : List ℕ) → (length s ≡ 0 → ⊥) → (getD s 0 0 ≡ ch "-" → ⊥) → getD s 0 0 ≡ ch "+" → integer s ≡ bounded false 9223372036854775807 (digits (drop 1 s))
+pub int-bare : (s : List ℕ) → (length s ≡ 0 → ⊥) → (getD s 0 0 ≡ ch "-" → ⊥) → integer s ≡ bounded false 9223372036854775807 (digits (drop 0 s))
 unfolding integer if_then_else_
-int-plus [] z n e = absurd (z refl)
-int-plus (b ∷ s) z n e = rw (ne-eqb b (ch "-") n, eq-eqb b (ch "+") e) (positive-bounded (digits s))
-
-pub int-bare : (s : List ℕ) → (length s ≡ 0 → ⊥) → (getD s 0 0 ≡ ch "-" → ⊥) → (getD s 0 0 ≡ ch "+" → ⊥) → integer s ≡ bounded false 9223372036854775807 (digits (drop 0 s))
-unfolding integer if_then_else_
-int-bare [] z n e = absurd (z refl)
-int-bare (b ∷ s) z n e = rw (ne-eqb b (ch "-") n, ne-eqb b (ch "+") e) (positive-bounded (digits (b ∷ s)))
+int-bare [] z n = absurd (z refl)
+int-bare (b ∷ s) z n = rw (ne-eqb b (ch "-") n) (positive-bounded (digits (b ∷ s)))
 
 -- ---- digits that are written
 

@@ -1,5 +1,5 @@
--- Section 2 of document 01, its last rules: scalars (`scalar_of`, `as_str`). Uses Base of `refusal`; Utf8 of `utf8`; Tree of `item`.
--- Assumes nothing.
+-- Section 2 of document 01, its last rules: scalars (`scalar_of`, `as_str`); and P4 of document 02. Uses Base of `refusal`; Utf8 of `utf8`;
+-- Tree of `item`. Assumes nothing.
 use Prim.Native.Nat.{ℕ, zero, suc, _+_, _*_, _-_, _/_, _%_, _^_}
 use mathlib.Core.List.{List, [], _∷_, _++_}
 use mathlib.Core.Bool.{Bool, true, false, _&&_, not}
@@ -24,8 +24,15 @@ unfoldable pub decimalFrom : ℕ → List ℕ → ℕ
 decimalFrom n [] = n
 decimalFrom n (b ∷ bs) = decimalFrom (n * 10 + (b - ch "0")) bs
 
+-- several bytes of which the first is `0`
+unfoldable pub zeroFirst : List ℕ → Bool
+zeroFirst [] = false
+zeroFirst (b ∷ []) = false
+zeroFirst (b ∷ c ∷ bs) = eqb b (ch "0")
+
+-- P4: several digits of which the first is 0 are no number
 unfoldable pub digits : List ℕ → Option ℕ
-digits s = if not (empty s) && allDigits s then some (decimalFrom 0 s) else none
+digits s = if not (empty s) && allDigits s && not (zeroFirst s) then some (decimalFrom 0 s) else none
 
 -- at most 9223372036854775807, or 9223372036854775808 behind a minus
 unfoldable pub positive : Option ℕ → Option ℤ
@@ -36,13 +43,10 @@ unfoldable pub negative : Option ℕ → Option ℤ
 negative none = none
 negative (some n) = if leb n (2 ^ 63) then some (negℤ (pos n)) else none
 
--- an optional sign, digits, 64 bits
+-- an optional minus, digits, 64 bits; P4: none that starts with `+`
 unfoldable pub integer : List ℕ → Option ℤ
 integer [] = none
-integer (b ∷ bs) =
-    if eqb b (ch "-") then negative (digits bs)
-    else if eqb b (ch "+") then positive (digits bs)
-    else positive (digits (b ∷ bs))
+integer (b ∷ bs) = if eqb b (ch "-") then negative (digits bs) else positive (digits (b ∷ bs))
 
 -- ---- plain scalars
 

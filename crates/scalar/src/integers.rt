@@ -4,7 +4,7 @@ ghost use Prim.Native.Nat.{_+_, _≤_, _<_, _^_};
 ghost use lib.ListN.{length, drop};
 ghost use lib.Seq.{sets};
 ghost use Rattle.item.specs.Encode.{signed};
-ghost use Rattle.scalar.specs.Scalars.{digits, integer, decimalOf, intText};
+ghost use Rattle.scalar.specs.Scalars.{zeroFirst, digits, integer, decimalOf, intText};
 ghost use Rattle.scalar.specs.Code.{intOf, bounded, minused};
 
 // An integer by its sign and its magnitude, or no integer.
@@ -20,12 +20,26 @@ fn wide(b: u8) -> u64
     b as u64
 }
 
-// The number that the digits from `from` on make, of which there is at least one, if it is at most `limit`.
+// Whether `from` and what is behind it are several bytes, of which the first is a zero.
+fn zero_first(t: &[u8], from: usize) -> bool
+    requires { ⌜ from < length (now t) ⌝ }
+    ensures { λ r. ⌜ r ≡ zeroFirst (drop from (now (t .entry))) ⌝ }
+{
+    if t.len() - from < 2 {
+        return false;
+    }
+    t[from] == b'0'
+}
+
+// The number that the digits from `from` on make, one or several of which the first is no zero, if it is at most `limit`.
 fn digits(t: &[u8], from: usize, negative: bool, limit: u64) -> Number
     requires { ⌜ (from ≤ length (now t)) × (9 ≤ limit) × (limit ≤ 2 ^ 63) ⌝ }
     ensures { λ r. ⌜ intOf r ≡ bounded negative limit (digits (drop from (now (t .entry)))) ⌝ }
 {
     if from == t.len() {
+        return Number::No;
+    }
+    if zero_first(t, from) {
         return Number::No;
     }
     let mut i = from;
@@ -51,7 +65,7 @@ fn digits(t: &[u8], from: usize, negative: bool, limit: u64) -> Number
     }
 }
 
-// An optional sign, digits, 64 bits.
+// An optional minus, digits, 64 bits.
 pub fn integer(t: &[u8]) -> Number
     ensures { λ r. ⌜ intOf r ≡ integer (now (t .entry)) ⌝ }
 {
@@ -60,9 +74,6 @@ pub fn integer(t: &[u8]) -> Number
     }
     if t[0] == b'-' {
         return digits(t, 1, true, 9223372036854775808);
-    }
-    if t[0] == b'+' {
-        return digits(t, 1, false, 9223372036854775807);
     }
     digits(t, 0, false, 9223372036854775807)
 }

@@ -1,4 +1,5 @@
--- The starred try-out texts of document 01 in one table, proved together about the definitions of both jobs. Assumes nothing.
+-- The starred try-out texts of document 01 in one table, with what P4 of document 02 makes of two of them, proved together about the
+-- definitions of both jobs. Assumes nothing.
 use mathlib.Core.Path.{_≡_, refl}
 use Prim.Native.Nat.{ℕ}
 use Prim.Native.String.{String}
@@ -42,8 +43,8 @@ starred =
     ∷ as-tree "{,}" (refused 16 1 0)
     ∷ as-tree "[a: b]" (refused 19 1 0)
     ∷ as-tree "[}" (refused 19 1 0)
-    ∷ as-tree "a: 007" (good (dict (pair (bytes "a") (int (pos 7)) done)))
-    ∷ as-tree "5: a\n+5: b" (refused 18 2 0)
+    ∷ as-tree "a: 007" (good (dict (pair (bytes "a") (string "007") done)))
+    ∷ as-tree "5: a\n+5: b" (good (dict (pair (bytes "5") (string "a") (pair (bytes "+5") (string "b") done))))
     ∷ as-tree "-9223372036854775808" (good (int (negsuc 9223372036854775807)))
     ∷ as-tree "9223372036854775808" (good (string "9223372036854775808"))
     ∷ as-tree "a:\n- b: 1" (good (dict (pair (bytes "a") null (pair (bytes "- b") (int (pos 1)) done))))

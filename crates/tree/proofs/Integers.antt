@@ -42,5 +42,4 @@ positive-mag (some n) z e = chosen (ltb n (2 ^ 63)) _ _ e
 pub integer-mag : (s : List ℕ) (z : ℤ) → integer s ≡ some z → mag z < 2 ^ 63
 unfolding integer
 integer-mag [] z e = absurd (Option·none-ne-some z e)
-integer-mag (b ∷ s) z e = chosen (eqb b (ch "-")) _ _ e (λ _ p. negative-mag (digits s) z p)
-    λ _ p. chosen (eqb b (ch "+")) _ _ p (λ _ q. positive-mag (digits s) z q) (λ _ q. positive-mag (digits (b ∷ s)) z q)
+integer-mag (b ∷ s) z e = chosen (eqb b (ch "-")) _ _ e (λ _ p. negative-mag (digits s) z p) (λ _ p. positive-mag (digits (b ∷ s)) z p)

@@ -3,7 +3,7 @@ use mathlib.Core.Path.{_≡_, refl, sym}
 use mathlib.Core.Bool.{Bool, true, false, _&&_, _||_, false≢true}
 use Prim.Native.Nat.{ℕ, _≤_, _<_}
 use lib.Dec.{leb}
-use borrow.Author.Tests.{le-leb, lt-leb}
+use borrow.Author.Tests.{leb-true, le-leb, lt-leb}
 use Rattle.utf8.specs.Utf8.{Range, within}
 
 pub and-false : (a : Bool) → a && false ≡ false
@@ -25,6 +25,10 @@ if-one false b e f g = g e
 pub neither : (a b : Bool) → a || b ≡ false → (a ≡ false) × (b ≡ false)
 neither false b e = (refl, e)
 neither true b e = absurd (false≢true (sym e))
+
+pub in-range : (r : Range) (b : ℕ) → within r b ≡ true → (r .low ≤ b) × (b ≤ r .high)
+unfolding within
+in-range r b e = let w = if-both (leb (r .low) b) (leb b (r .high)) e in (leb-true (r .low) b (w .0), leb-true b (r .high) (w .1))
 
 pub inside : (r : Range) (b : ℕ) → r .low ≤ b → b ≤ r .high → within r b ≡ true
 unfolding within

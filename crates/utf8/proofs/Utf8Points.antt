@@ -11,7 +11,7 @@ use lib.ListN.{length}
 use borrow.Author.Tests.{leb-true, leb-false, le-leb, lt-leb}
 use Rattle.refusal.specs.Base.{if_then_else_, maybe}
 use Rattle.utf8.specs.Utf8.{Range, _‥_, within, tail, table, tailsOf, utf8From, isUtf8}
-use Rattle.utf8.proofs.Ranges.{inside, below, above, if-both}
+use Rattle.utf8.proofs.Ranges.{in-range, inside, below, above, if-both}
 use Rattle.utf8.proofs.TableLaws.{in-row, no-row, past-rows}
 use Rattle.utf8.specs.Points.{sixOf, encode, inAny, scalar}
 use Rattle.utf8.proofs.Utf8Laws.{utf8-ascii}
@@ -188,11 +188,6 @@ cut b n {X} f g = go (leb b n) refl
     go : (x : Bool) → leb b n ≡ x → X
     go true e = f (leb-true b n e)
     go false e = g (leb-false b n e)
-
--- a byte in a range
-in-range : (r : Range) (b : ℕ) → within r b ≡ true → (r .low ≤ b) × (b ≤ r .high)
-unfolding within
-in-range r b e = let w = if-both (leb (r .low) b) (leb b (r .high)) e in (leb-true (r .low) b (w .0), leb-true b (r .high) (w .1))
 
 -- a text that begins with a code point, as one does that is UTF-8
 record Begins (s : List ℕ) : Type 0 where

@@ -8,18 +8,18 @@ use mathlib.Core.Bool.{Bool, true, false, _&&_, _||_, not, true≢false, or-true
 use mathlib.Core.Option.{none, some, Option·none-ne-some}
 use lib.Dec.{eqb, leb}
 use lib.IntN.{ℤ, pos, negℤ}
-use borrow.Author.Tests.{eqb-true, eqb-false, le-leb, lt-leb, leb-true, ltb-true}
+use borrow.Author.Tests.{eqb-true, eqb-false, ne-eqb, le-leb, lt-leb, leb-true, ltb-true}
 use Rattle.refusal.specs.Base.{if_then_else_, ch, bytes, same, oneOf, empty}
 use Rattle.utf8.specs.Utf8.{Range, _‥_, within}
-use Rattle.utf8.proofs.Ranges.{if-both}
+use Rattle.utf8.proofs.Ranges.{if-both, if-one, in-range, inside}
 use Rattle.utf8.specs.Points.{inAny}
 use Rattle.item.specs.Tree.{Yaml}
 use Rattle.item.specs.Tree as Tree
 use Rattle.item.proofs.Same.{same-eq}
-use Rattle.scalar.specs.Scalars.{isDigit, allDigits, decimalFrom, digits, positive, negative, integer, nulls, trues, falses, intOr, scalarOf}
+use Rattle.scalar.specs.Scalars.{isDigit, allDigits, decimalFrom, zeroFirst, digits, positive, negative, integer, nulls, trues, falses, intOr, scalarOf}
 use Rattle.yaml.specs.Represent.{Rep, asYaml, fits64}
 use Rattle.yaml.specs.Core.{Regex, never, some-of, _·_, _∣_, star, nullable, behind, matches, byte, word, plus, digit, sign, nullText, trueText}
-use Rattle.yaml.specs.Core.{falseText, decimalText, octalText, hexText, floatText, digitOf, number, signed, Core, to-null, to-true, to-false, to-decimal}
+use Rattle.yaml.specs.Core.{falseText, decimalText, octalText, hexText, floatText, jsonDecimalText, digitOf, number, signed, Core, to-null, to-true, to-false, to-decimal}
 use Rattle.yaml.specs.Core.{to-octal, to-hex, to-float, to-str}
 use Rattle.yaml.specs.Core as C
 use Rattle.yaml.specs.Kept.{keptCore}
@@ -146,9 +146,13 @@ false-is : (t : List ℕ) → matches falseText t ≡ oneOf t falses
 unfolding falseText
 false-is t = three-is (bytes "false") (bytes "False") (bytes "FALSE") t
 
+one-range : (r : Range) (b : ℕ) → inAny (r ∷ []) b ≡ within r b
+unfolding inAny
+one-range r b = or-false (within r b)
+
 digit-is : (b : ℕ) → inAny ((ch "0" ‥ ch "9") ∷ []) b ≡ isDigit b
-unfolding inAny isDigit
-digit-is b = or-false (within (ch "0" ‥ ch "9") b)
+unfolding isDigit
+digit-is b = one-range (ch "0" ‥ ch "9") b
 
 star-is : (t : List ℕ) → matches (star digit) t ≡ allDigits t
 unfolding matches nullable behind allDigits if_then_else_
@@ -171,6 +175,15 @@ sign-then : (q : Regex) (t : List ℕ) → matches (sign · q) t ≡ (matches (b
 sign-then q t =
     rw (or-then (byte (ch "-") ∣ byte (ch "+")) C.empty q t, or-then (byte (ch "-")) (byte (ch "+")) q t, empty-then q t)
 
+digs-on : (b : ℕ) (bs : List ℕ) → isDigit b ≡ true → allDigits bs ≡ true → digs (b ∷ bs) ≡ true
+unfolding empty allDigits
+digs-on b bs h k = rw (h, k)
+
+-- a text that begins with no digit
+digs-no : (b x : ℕ) (bs : List ℕ) → b ≡ x → isDigit x ≡ false → digs (b ∷ bs) ≡ false
+unfolding empty allDigits
+digs-no b x bs e h = rw (e, h)
+
 -- [-+]? [0-9]+ as a test
 unfoldable isInt : List ℕ → Bool
 isInt [] = false
@@ -184,21 +197,18 @@ int-is (b ∷ bs) =
     ∙ rw (byte-then (ch "-") (plus digit) b bs, byte-then (ch "+") (plus digit) b bs, plus-is bs, plus-is (b ∷ bs))
     (go (eqb b (ch "-")) (eqb b (ch "+")) refl refl)
   where
-    sign-no : (x : ℕ) → b ≡ x → isDigit x ≡ false → digs (b ∷ bs) ≡ false
-    sign-no x e h = unfold empty allDigits in (rw (e, h))
-
     go : (x y : Bool) → eqb b (ch "-") ≡ x → eqb b (ch "+") ≡ y
         → ((x && digs bs) || (y && digs bs)) || digs (b ∷ bs) ≡ (if x then digs bs else if y then digs bs else digs (b ∷ bs))
     go true true e f = absurd (true≢false (sym f ∙ rw (eqb-true b _ e)))
-    go true false e f = unfold if_then_else_ in (rw (sign-no (ch "-") (eqb-true b _ e) (unfold isDigit within in refl), or-false (digs bs), or-false (digs bs)))
-    go false true e f = unfold if_then_else_ in (rw (sign-no (ch "+") (eqb-true b _ f) (unfold isDigit within in refl), or-false (digs bs)))
+    go true false e f = unfold if_then_else_ in (rw (digs-no b (ch "-") bs (eqb-true b _ e) (unfold isDigit within in refl), or-false (digs bs), or-false (digs bs)))
+    go false true e f = unfold if_then_else_ in (rw (digs-no b (ch "+") bs (eqb-true b _ f) (unfold isDigit within in refl), or-false (digs bs)))
     go false false e f = unfold if_then_else_ in refl
 
 -- ---- integers
 
 digit-value : (b : ℕ) → isDigit b ≡ true → digitOf b ≡ b - ch "0"
-unfolding isDigit within digitOf if_then_else_
-digit-value b h = let k = if-both (leb 48 b) (leb b 57) h in let q : b ≤ 57 = leb-true b 57 (k .1) in rw (lt-leb 97 b (omega arith), lt-leb 65 b (omega arith))
+unfolding isDigit digitOf if_then_else_
+digit-value b h = let k = in-range (ch "0" ‥ ch "9") b h in rw (lt-leb 97 b (omega arith), lt-leb 65 b (omega arith))
 
 number-is : (n : ℕ) (s : List ℕ) → allDigits s ≡ true → number 10 n s ≡ decimalFrom n s
 unfolding number decimalFrom allDigits
@@ -209,20 +219,20 @@ digits-none : (s : List ℕ) → digs s ≡ false → digits s ≡ none
 unfolding digits if_then_else_
 digits-none s h = rw h
 
-digits-some : (s : List ℕ) → digs s ≡ true → digits s ≡ some (number 10 0 s)
+digits-some : (s : List ℕ) → digs s ≡ true → zeroFirst s ≡ false → digits s ≡ some (number 10 0 s)
 unfolding digits if_then_else_
-digits-some s h = rw (h, number-is 0 s (if-both (not (empty s)) (allDigits s) h .1))
+digits-some s h z = rw (h, z, number-is 0 s (if-both (not (empty s)) (allDigits s) h .1))
 
 int-none : (t : List ℕ) → isInt t ≡ false → integer t ≡ none
 unfolding isInt integer
 int-none [] h = refl
-int-none (b ∷ bs) h = go (eqb b (ch "-")) (eqb b (ch "+")) h
+int-none (b ∷ bs) h = go (eqb b (ch "-")) (eqb b (ch "+")) refl h
   where
-    go : (x y : Bool) → (if x then digs bs else if y then digs bs else digs (b ∷ bs)) ≡ false
-        → (if x then negative (digits bs) else if y then positive (digits bs) else positive (digits (b ∷ bs))) ≡ none
-    go true y h = unfold if_then_else_ negative in (rw (digits-none bs (unfold if_then_else_ in h)))
-    go false true h = unfold if_then_else_ positive in (rw (digits-none bs (unfold if_then_else_ in h)))
-    go false false h = unfold if_then_else_ positive in (rw (digits-none (b ∷ bs) (unfold if_then_else_ in h)))
+    go : (x y : Bool) → eqb b (ch "+") ≡ y → (if x then digs bs else if y then digs bs else digs (b ∷ bs)) ≡ false
+        → (if x then negative (digits bs) else positive (digits (b ∷ bs))) ≡ none
+    go true y f h = unfold if_then_else_ negative in (rw (digits-none bs (unfold if_then_else_ in h)))
+    go false true f h = unfold if_then_else_ positive in (rw (digits-none (b ∷ bs) (digs-no b (ch "+") bs (eqb-true b _ f) (unfold isDigit within in refl))))
+    go false false f h = unfold if_then_else_ positive in (rw (digits-none (b ∷ bs) (unfold if_then_else_ in h)))
 
 positive-is : (n : ℕ) → fits64 (pos n) ≡ true → positive (some n) ≡ some (pos n)
 unfolding fits64 positive if_then_else_
@@ -233,18 +243,61 @@ unfolding fits64 negative if_then_else_
 negative-is zero h = refl
 negative-is (suc n) h = rw (le-leb (suc n) (2 ^ 63) (ltb-true n (2 ^ 63) h))
 
-int-some : (t : List ℕ) → isInt t ≡ true → fits64 (signed t) ≡ true → integer t ≡ some (signed t)
-unfolding isInt integer signed
-int-some [] h f = absurd (true≢false (sym h))
-int-some (b ∷ bs) h f = go (eqb b (ch "-")) (eqb b (ch "+")) h f
+-- ---- integers of the JSON schema
+
+-- [1-9] [0-9]*
+abbrev fromOne : Regex
+fromOne = some-of ((ch "1" ‥ ch "9") ∷ []) · star digit
+
+-- 0 | [1-9] [0-9]*
+abbrev unsigned : Regex
+unsigned = word (bytes "0") ∣ fromOne
+
+-- digits, of which the first is no 0 before others
+abbrev Unpadded : List ℕ → Type 0
+Unpadded s = (digs s ≡ true) × (zeroFirst s ≡ false)
+
+unsigned-is : (s : List ℕ) → matches unsigned s ≡ true → Unpadded s
+unfolding zeroFirst isDigit
+unsigned-is [] h = absurd (true≢false (sym h ∙ unfold matches nullable word bytes in refl))
+unsigned-is (b ∷ bs) h = if-one (matches (word (bytes "0")) (b ∷ bs)) _ (sym (matches-or (word (bytes "0")) fromOne (b ∷ bs)) ∙ h) alone several
   where
-    go : (x y : Bool) → (if x then digs bs else if y then digs bs else digs (b ∷ bs)) ≡ true
+    alone : matches (word (bytes "0")) (b ∷ bs) ≡ true → Unpadded (b ∷ bs)
+    alone m = subst Unpadded (sym (same-eq (b ∷ bs) (bytes "0") (sym (word-is (bytes "0") (b ∷ bs)) ∙ m))) (unfold bytes empty allDigits within in (refl, refl))
+
+    zero-not : (bs : List ℕ) → eqb b 48 ≡ false → zeroFirst (b ∷ bs) ≡ false
+    zero-not [] e = refl
+    zero-not (c ∷ bs) e = e
+
+    several : matches fromOne (b ∷ bs) ≡ true → Unpadded (b ∷ bs)
+    several m =
+        let k = if-both (inAny ((ch "1" ‥ ch "9") ∷ []) b) (matches (star digit) bs) (sym (some-then ((ch "1" ‥ ch "9") ∷ []) (star digit) b bs) ∙ m) in
+        let r = in-range (ch "1" ‥ ch "9") b (sym (one-range (ch "1" ‥ ch "9") b) ∙ k .0) in
+        (digs-on b bs (inside (ch "0" ‥ ch "9") b (omega arith) (r .1)) (sym (star-is bs) ∙ k .1), zero-not bs (ne-eqb b 48 (λ e. omega arith)))
+
+json-then : (b : ℕ) (bs : List ℕ) → matches jsonDecimalText (b ∷ bs) ≡ (eqb b (ch "-") && matches unsigned bs) || matches unsigned (b ∷ bs)
+unfolding jsonDecimalText
+json-then b bs = or-then (byte (ch "-")) C.empty unsigned (b ∷ bs) ∙ rw (byte-then (ch "-") unsigned b bs, empty-then unsigned (b ∷ bs))
+
+int-some : (t : List ℕ) → matches jsonDecimalText t ≡ true → fits64 (signed t) ≡ true → integer t ≡ some (signed t)
+unfolding integer signed if_then_else_
+int-some [] h f = absurd (true≢false (sym h ∙ unfold jsonDecimalText matches nullable word bytes in refl))
+int-some (b ∷ bs) h f = go (eqb b (ch "-")) (eqb b (ch "+")) refl refl (sym (json-then b bs) ∙ h) f
+  where
+    no-sign : (x : ℕ) → b ≡ x → isDigit x ≡ false → matches unsigned (b ∷ bs) ≡ true → ⊥
+    no-sign x e d m = true≢false (sym (unsigned-is (b ∷ bs) m .0) ∙ digs-no b x bs e d)
+
+    go : (x y : Bool) → eqb b (ch "-") ≡ x → eqb b (ch "+") ≡ y → (x && matches unsigned bs) || matches unsigned (b ∷ bs) ≡ true
         → fits64 (if x then negℤ (pos (number 10 0 bs)) else if y then pos (number 10 0 bs) else pos (number 10 0 (b ∷ bs))) ≡ true
-        → (if x then negative (digits bs) else if y then positive (digits bs) else positive (digits (b ∷ bs)))
+        → (if x then negative (digits bs) else positive (digits (b ∷ bs)))
         ≡ some (if x then negℤ (pos (number 10 0 bs)) else if y then pos (number 10 0 bs) else pos (number 10 0 (b ∷ bs)))
-    go true y h f = unfold if_then_else_ in (rw (digits-some bs (unfold if_then_else_ in h)) (negative-is (number 10 0 bs) (unfold if_then_else_ in f)))
-    go false true h f = unfold if_then_else_ in (rw (digits-some bs (unfold if_then_else_ in h)) (positive-is (number 10 0 bs) (unfold if_then_else_ in f)))
-    go false false h f = unfold if_then_else_ in (rw (digits-some (b ∷ bs) (unfold if_then_else_ in h)) (positive-is (number 10 0 (b ∷ bs)) (unfold if_then_else_ in f)))
+    go true y e g h f =
+        let k = unsigned-is bs (if-one (matches unsigned bs) _ h (λ m. m) (λ m. absurd (no-sign (ch "-") (eqb-true b _ e) (unfold isDigit within in refl) m))) in
+        rw (digits-some bs (k .0) (k .1)) (negative-is (number 10 0 bs) f)
+    go false true e g h f = absurd (no-sign (ch "+") (eqb-true b _ g) (unfold isDigit within in refl) h)
+    go false false e g h f =
+        let k = unsigned-is (b ∷ bs) h in
+        rw (digits-some (b ∷ bs) (k .0) (k .1)) (positive-is (number 10 0 (b ∷ bs)) f)
 
 -- ---- plain scalars
 
@@ -260,15 +313,15 @@ each P (x ∷ l) h t e = go (same t x) refl e (λ q. each P l (h .1) t q)
 
 -- no text is of two rows
 null-no-int : (t : List ℕ) → oneOf t nulls ≡ true → integer t ≡ none
-unfolding bytes integer digits positive negative allDigits isDigit within empty if_then_else_
+unfolding bytes integer digits zeroFirst positive negative allDigits isDigit within empty if_then_else_
 null-no-int = each (λ t. integer t ≡ none) nulls (refl, (refl, (refl, (refl, (refl, tt)))))
 
 true-no-int : (t : List ℕ) → oneOf t trues ≡ true → (integer t ≡ none) × (oneOf t nulls ≡ false)
-unfolding bytes integer digits positive negative allDigits isDigit within empty if_then_else_ oneOf same
+unfolding bytes integer digits zeroFirst positive negative allDigits isDigit within empty if_then_else_ oneOf same
 true-no-int = each (λ t. (integer t ≡ none) × (oneOf t nulls ≡ false)) trues ((refl, refl), ((refl, refl), ((refl, refl), tt)))
 
 false-no-int : (t : List ℕ) → oneOf t falses ≡ true → (integer t ≡ none) × (oneOf t nulls ≡ false) × (oneOf t trues ≡ false)
-unfolding bytes integer digits positive negative allDigits isDigit within empty if_then_else_ oneOf same
+unfolding bytes integer digits zeroFirst positive negative allDigits isDigit within empty if_then_else_ oneOf same
 false-no-int = each (λ t. (integer t ≡ none) × (oneOf t nulls ≡ false) × (oneOf t trues ≡ false)) falses ((refl, refl, refl), ((refl, refl, refl), ((refl, refl, refl), tt)))
 
 -- an integer is of no other row
@@ -288,7 +341,7 @@ resolves (to-false {t = t} h) k y e = let g = sym (false-is t) ∙ is-true _ h i
 resolves (to-decimal {t = t} h) k y e = go (fits64 (signed t)) refl e
   where
     go : (x : Bool) → fits64 (signed t) ≡ x → (if x then some (Tree.int (signed t)) else none) ≡ some y → scalarOf t ≡ y
-    go true f e = int-reads t (signed t) (int-some t (sym (int-is t) ∙ is-true (matches decimalText t) h) f) ∙ some-eq e
+    go true f e = int-reads t (signed t) (int-some t (is-true (matches jsonDecimalText t) k) f) ∙ some-eq e
     go false f e = absurd (Option·none-ne-some y e)
 resolves (to-octal h) k y e = absurd k
 resolves (to-hex h) k y e = absurd k

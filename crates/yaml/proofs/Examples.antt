@@ -15,7 +15,7 @@ use Rattle.utf8.proofs.Open.{Utf8-open, Points-open}
 use Rattle.item.specs.Tree as Tree
 use Rattle.yaml.specs.Scalars.{flow-out, flow-in, d-end, d-char, d-escaped, esc-n, s-end, s-char, s-twice}
 use Rattle.yaml.specs.Represent.{Rep, null, bool, int, float, str, seq, map, end, _▸_, done, pair, treeOf}
-use Rattle.yaml.specs.Core.{Core, to-null, to-true, to-false, to-decimal, to-octal, to-hex, to-float, to-str, matches, signed, prefixed, nullText, trueText, falseText, decimalText, octalText, hexText, floatText, _∣_}
+use Rattle.yaml.specs.Core.{Core, to-null, to-true, to-false, to-decimal, to-octal, to-hex, to-float, to-str, matches, signed, prefixed, nullText, trueText, falseText, decimalText, octalText, hexText, floatText, jsonDecimalText, _∣_}
 use Rattle.yaml.proofs.Open.{Core-open}
 use Rattle.yaml.specs.Flow.{f-plain, f-quoted, f-seq, f-map, q-double, q-single, s-last, s-more, p-adjacent, p-null}
 use Rattle.yaml.specs.Flow as F
@@ -523,6 +523,12 @@ tilde d = no-row d refl
 seven : signed (bytes "-007") ≡ negsuc 6
 unfolding Base-open Core-open
 seven = refl
+
+-- which of these the JSON schema has too
+unpadded : T (matches jsonDecimalText (bytes "0")) × T (matches jsonDecimalText (bytes "-0")) × T (matches jsonDecimalText (bytes "-70")) × T (not (matches jsonDecimalText (bytes "+5")))
+    × T (not (matches jsonDecimalText (bytes "007"))) × T (not (matches jsonDecimalText (bytes "-07"))) × T (not (matches jsonDecimalText (bytes "-")))
+unfolding Base-open Utf8-open Points-open Core-open
+unpadded = (tt, tt, tt, tt, tt, tt, tt)
 
 thirty : prefixed 16 (bytes "0x1F") ≡ pos 31
 unfolding Base-open Core-open

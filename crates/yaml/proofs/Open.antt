@@ -1,7 +1,7 @@
 -- Every definition of a file of `specs/` opened at once, for proofs that compute with them. Assumes nothing.
 use Rattle.yaml.specs.Block.{mark, chomped, shown}
 use Rattle.yaml.specs.Characters.{printable, utf8Of, allPrintable, characters, whites, nbChars, among}
-use Rattle.yaml.specs.Core.{nullable, behind, matches, word, nullText, trueText, falseText, decimalText, octalText, hexText, floatText, digitOf, number, signed, prefixed}
+use Rattle.yaml.specs.Core.{nullable, behind, matches, word, nullText, trueText, falseText, decimalText, octalText, hexText, floatText, jsonDecimalText, digitOf, number, signed, prefixed}
 use Rattle.yaml.specs.Flow.{jsonLike}
 use Rattle.yaml.specs.Kept.{keptCore, keptFlow, keptItems, keptPairs, keptPair, keptLast, keptLiteral, starts, keptKey, keyFound, noKey, keptBlock, keptSeq, keptItem, keptMap, keptEntry, opened, cut, trimmed, keptRows, keptDocument}
 use Rattle.yaml.specs.Ordinary.{without, ascii, quotedWithout, flowWithout, itemsWithout, pairsWithout, pairWithout, hashBehindSpace}
@@ -18,7 +18,7 @@ unfolding printable utf8Of allPrintable characters whites nbChars among
 Characters-open = tt
 
 unfoldable pub Core-open : Unit {0}
-unfolding nullable behind matches word nullText trueText falseText decimalText octalText hexText floatText digitOf number signed prefixed
+unfolding nullable behind matches word nullText trueText falseText decimalText octalText hexText floatText jsonDecimalText digitOf number signed prefixed
 Core-open = tt
 
 unfoldable pub Flow-open : Unit {0}

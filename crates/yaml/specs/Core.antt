@@ -1,5 +1,5 @@
--- YAML 1.2.2, 10.3.2: the core schema, by its regular expressions. Uses Base of `refusal`; Utf8 and Points of `utf8`; Represent of this
--- crate. Assumes nothing.
+-- YAML 1.2.2, 10.3.2: the core schema, by its regular expressions; and the integers of the JSON schema, 10.2.2. Uses Base of `refusal`; Utf8
+-- and Points of `utf8`; Represent of this crate. Assumes nothing.
 use Prim.Native.Nat.{ℕ, _+_, _*_, _-_}
 use mathlib.Core.List.{List, [], _∷_}
 use mathlib.Core.Bool.{Bool, true, false, _&&_, _||_, not}
@@ -94,6 +94,12 @@ floatText =
     ∣ word (bytes ".nan")
     ∣ word (bytes ".NaN")
     ∣ word (bytes ".NAN")
+
+-- ---- a row of the table of 10.2.2
+
+-- -? ( 0 | [1-9] [0-9]* )
+unfoldable pub jsonDecimalText : Regex
+jsonDecimalText = optional (byte (ch "-")) · (word (bytes "0") ∣ (some-of ((ch "1" ‥ ch "9") ∷ []) · star digit))
 
 -- ---- values
 

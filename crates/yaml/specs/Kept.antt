@@ -1,12 +1,12 @@
--- Where document 01 parts from YAML 1.2.2 on texts that the grammar has: conditions on a derivation under which they agree. Each names the
--- smallest text that it rules out. Uses Base of `refusal`; White of `utf8`; Tree of `item`; Lines of `lines`; Key of `scalar`; Scalars,
--- Represent, Core, Flow, Rows and Block of this crate. Assumes nothing.
+-- Where document 01, with P4 of document 02, parts from YAML 1.2.2 on texts that the grammar has: conditions on a derivation under which
+-- they agree. Each names the smallest text that it rules out. Uses Base of `refusal`; White of `utf8`; Tree of `item`; Lines of `lines`; Key
+-- of `scalar`; Scalars, Represent, Core, Flow, Rows and Block of this crate. Assumes nothing.
 use mathlib.Core.Path.{_≡_}
 use Prim.Native.Nat.{ℕ, _+_, _≤_, _<_}
 use mathlib.Core.List.{List, [], _∷_, _++_}
 use mathlib.Core.Bool.{Bool, false}
 use mathlib.Core.Option.{Option, none, some}
-use lib.Dec.{eqb, ltb}
+use lib.Dec.{T, eqb, ltb}
 use lib.ListN.{length, drop}
 use Rattle.refusal.specs.Base.{if_then_else_, ch}
 use Rattle.utf8.specs.White.{trim, trimEnd, allWhite}
@@ -15,7 +15,7 @@ use Rattle.scalar.specs.Key.{keyEnd}
 use Rattle.item.specs.Tree.{many, keyed}
 use Rattle.yaml.specs.Scalars.{Context}
 use Rattle.yaml.specs.Represent.{Graph, Rep}
-use Rattle.yaml.specs.Core.{Core, to-null, to-true, to-false, to-decimal, to-octal, to-hex, to-float, to-str}
+use Rattle.yaml.specs.Core.{matches, jsonDecimalText, Core, to-null, to-true, to-false, to-decimal, to-octal, to-hex, to-float, to-str}
 use Rattle.yaml.specs.Flow.{Flow, f-plain, f-quoted, f-seq, f-map, FlowItems, s-close, s-last, s-more, FlowPairs, FlowPair, p-value, p-adjacent, p-null}
 use Rattle.yaml.specs.Flow as F
 use Rattle.yaml.specs.Rows.{Break, lf, crlf, eof, Row, node, note, body, blank}
@@ -24,12 +24,12 @@ use Rattle.yaml.specs.Block as B
 
 -- ---- scalars and flow nodes
 
--- `0o17` and `0x1F` are texts to document 01
+-- `0o17` and `0x1F` are texts to document 01; `+1` and `00` to P4, which leaves the integers of the JSON schema
 unfoldable pub keptCore : {t : List ℕ} {r : Rep} → Core t r → Type 0
 keptCore (to-null h) = Unit {0}
 keptCore (to-true h) = Unit {0}
 keptCore (to-false h) = Unit {0}
-keptCore (to-decimal h) = Unit {0}
+keptCore (to-decimal {t = t} h) = T (matches jsonDecimalText t)
 keptCore (to-octal h) = ⊥
 keptCore (to-hex h) = ⊥
 keptCore (to-float g h) = Unit {0}

@@ -1,6 +1,6 @@
 -- By the first byte. Assumes nothing.
 use mathlib.Core.Path.{sym, _∙_}
-use Rattle.scalar.proofs.NumberLaws.{int-none, int-minus, int-plus, int-bare}
+use Rattle.scalar.proofs.NumberLaws.{int-none, int-minus, int-bare}
 use borrow.Author.Needs.{needs}
 use Rattle.scalar.proofs.integers.integer.Statement.{statement}
 use Rattle.scalar.proofs.integers.integer.Tie as tie
@@ -12,10 +12,7 @@ returns-2 : tie.Need-returns-2
 returns-2 c = c .digits .ensures ∙ sym (int-minus (c .before .before .before .before .before .args .t .now) (c .before .before .before .if1 .left) (c .before .if2 .taken))
 
 returns-3 : tie.Need-returns-3
-returns-3 c = c .digits2 .ensures ∙ sym (int-plus (c .before .before .before .before .before .before .before .args .t .now) (c .before .before .before .before .before .if1 .left) (c .before .before .before .if2 .left) (c .before .if3 .taken))
-
-returns-4 : tie.Need-returns-4
-returns-4 c = c .digits3 .ensures ∙ sym (int-bare (c .before .before .before .before .before .before .before .args .t .now) (c .before .before .before .before .before .if1 .left) (c .before .before .before .if2 .left) (c .before .if3 .left))
+returns-3 c = c .digits2 .ensures ∙ sym (int-bare (c .before .before .before .before .before .args .t .now) (c .before .before .before .if1 .left) (c .before .if2 .left))
 
 pub integer-spec : {M : Type 1} → statement M
 integer-spec =
@@ -25,8 +22,5 @@ integer-spec =
     (λ c. search needs)
     (λ c κs. search needs)
     returns-2
-    (λ c. search needs)
     (λ c κs. search needs)
-    returns-3
-    (λ c κs. search needs)
-    returns-4)
+    returns-3)

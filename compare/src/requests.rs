@@ -1,0 +1,32 @@
+//! The rules of document 02's requests, for the second copy of `scenario.rs`, into which the build
+//! puts calls of them. That copy is no longer the Rust. It answers for the texts that a rule
+//! changes, and the unchanged file for all others.
+
+use std::sync::atomic::{AtomicBool, Ordering::Relaxed};
+
+/// Whether a rule has changed something in the text that is being read.
+static CHANGED: AtomicBool = AtomicBool::new(false);
+
+pub fn begin() {
+    CHANGED.store(false, Relaxed);
+}
+
+pub fn changed() -> bool {
+    CHANGED.load(Relaxed)
+}
+
+/// P4: no integer has a plus, or a zero before its other digits.
+pub fn integer(text: &str) -> Result<i64, ()> {
+    let digits = text.strip_prefix('-').unwrap_or(text);
+    let zero_first = digits.len() > 1
+        && digits.starts_with('0')
+        && digits.bytes().all(|byte| byte.is_ascii_digit());
+    match text.parse() {
+        Ok(_) if text.starts_with('+') || zero_first => {
+            CHANGED.store(true, Relaxed);
+            Err(())
+        }
+        Ok(number) => Ok(number),
+        Err(_) => Err(()),
+    }
+}
