@@ -18,11 +18,9 @@ pub fn changed() -> bool {
 /// P4: no integer has a plus, or a zero before its other digits.
 pub fn integer(text: &str) -> Result<i64, ()> {
     let digits = text.strip_prefix('-').unwrap_or(text);
-    let zero_first = digits.len() > 1
-        && digits.starts_with('0')
-        && digits.bytes().all(|byte| byte.is_ascii_digit());
+    let padded = text.starts_with('+') || digits.len() > 1 && digits.starts_with('0');
     match text.parse() {
-        Ok(_) if text.starts_with('+') || zero_first => {
+        Ok(_) if padded => {
             CHANGED.store(true, Relaxed);
             Err(())
         }

@@ -1,5 +1,5 @@
--- P4 of document 02: which plain scalars are strings; and the key text of every other one but null, booleans and `-0` is what was written.
--- Assumes nothing.
+-- P4 of document 02: which plain scalars are strings; and that the key text of a plain scalar, null, booleans
+-- and `-0` aside, is what was written. Assumes nothing.
 use mathlib.Core.Path.{_≡_, refl, sym, ap, _∙_}
 use Prim.Native.Nat.{ℕ, _+_, _*_, _-_, _/_, _%_, _^_, _≤_, _<_}
 use native.Mathlib.Omega.{arith}

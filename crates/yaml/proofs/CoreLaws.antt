@@ -19,7 +19,7 @@ use Rattle.item.proofs.Same.{same-eq}
 use Rattle.scalar.specs.Scalars.{isDigit, allDigits, decimalFrom, zeroFirst, digits, positive, negative, integer, nulls, trues, falses, intOr, scalarOf}
 use Rattle.yaml.specs.Represent.{Rep, asYaml, fits64}
 use Rattle.yaml.specs.Core.{Regex, never, some-of, _·_, _∣_, star, nullable, behind, matches, byte, word, plus, digit, sign, nullText, trueText}
-use Rattle.yaml.specs.Core.{falseText, decimalText, octalText, hexText, floatText, jsonDecimalText, digitOf, number, signed, Core, to-null, to-true, to-false, to-decimal}
+use Rattle.yaml.specs.Core.{falseText, decimalText, octalText, hexText, floatText, fromOne, unsigned, jsonDecimalText, digitOf, number, signed, Core, to-null, to-true, to-false, to-decimal}
 use Rattle.yaml.specs.Core.{to-octal, to-hex, to-float, to-str}
 use Rattle.yaml.specs.Core as C
 use Rattle.yaml.specs.Kept.{keptCore}
@@ -244,14 +244,6 @@ negative-is zero h = refl
 negative-is (suc n) h = rw (le-leb (suc n) (2 ^ 63) (ltb-true n (2 ^ 63) h))
 
 -- ---- integers of the JSON schema
-
--- [1-9] [0-9]*
-abbrev fromOne : Regex
-fromOne = some-of ((ch "1" ‥ ch "9") ∷ []) · star digit
-
--- 0 | [1-9] [0-9]*
-abbrev unsigned : Regex
-unsigned = word (bytes "0") ∣ fromOne
 
 -- digits, of which the first is no 0 before others
 abbrev Unpadded : List ℕ → Type 0

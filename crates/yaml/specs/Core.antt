@@ -97,9 +97,17 @@ floatText =
 
 -- ---- a row of the table of 10.2.2
 
+-- [1-9] [0-9]*
+abbrev pub fromOne : Regex
+fromOne = some-of ((ch "1" ‥ ch "9") ∷ []) · star digit
+
+-- 0 | [1-9] [0-9]*
+abbrev pub unsigned : Regex
+unsigned = word (bytes "0") ∣ fromOne
+
 -- -? ( 0 | [1-9] [0-9]* )
 unfoldable pub jsonDecimalText : Regex
-jsonDecimalText = optional (byte (ch "-")) · (word (bytes "0") ∣ (some-of ((ch "1" ‥ ch "9") ∷ []) · star digit))
+jsonDecimalText = optional (byte (ch "-")) · unsigned
 
 -- ---- values
 
