@@ -11,7 +11,8 @@ use lib.ListN.{length}
 use Rattle.refusal.specs.Base.{Answer, good, if_then_else_, ensure, given, ch, oneOf}
 use Rattle.utf8.specs.White.{trim}
 use Rattle.item.specs.Tree.{Yaml, null, bool, int, str, seq, dict, Items, end, _▸_, _◂_, noItem, Entries, done, pair, add, noEntry}
-use Rattle.scalar.specs.Scalars.{keyText, boolText, intText, scalarOf, intOr, integer, nulls, trues, falses}
+use Rattle.number.specs.Integers.{integer, intText}
+use Rattle.scalar.specs.Scalars.{keyText, boolText, scalarOf, intOr, nulls, trues, falses}
 use Rattle.scalar.specs.declared.Role.{Role}
 use Rattle.scalar.specs.declared.Role.the-variants.{AsValue, AsKey}
 use Rattle.scalar.specs.Read.{cost, Got, Reader, charge, scalar, plain, plainText, string, skipSpaces, stop}

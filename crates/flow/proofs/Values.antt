@@ -15,11 +15,12 @@ use Rattle.refusal.specs.declared.Refusal.the-variants.{KeyNotScalar, KeyWithou
 use Rattle.item.specs.Tree.{Yaml, null, bool, int, str, seq, dict}
 use Rattle.item.specs.Encode.{item, encode}
 use Rattle.item.proofs.Runs.{sets-append}
+use Rattle.number.specs.Integers.{intText}
 use Rattle.scalar.specs.declared.Role.{Role}
 use Rattle.scalar.specs.declared.Role.the-variants.{AsValue, AsKey}
 use Rattle.scalar.specs.declared.Parsed.{Parsed}
 use Rattle.scalar.specs.declared.Parsed.the-variants.{Done, Refused}
-use Rattle.scalar.specs.Scalars.{keyText, boolText, intText}
+use Rattle.scalar.specs.Scalars.{keyText, boolText}
 use Rattle.scalar.specs.Read.{Got, charge, stop, scalar, skipSpaces, string, doubleQuoted, singleQuoted, plain}
 use Rattle.scalar.specs.Contract.{written, isKey, Refuses, WroteValue, AgreesParsed}
 use Rattle.flow.specs.Flow.{behindColon, entryValue, flowSeq, flowMap, node, value}

@@ -17,8 +17,9 @@ use Rattle.item.specs.Encode.{number, le, twos, flag, item, encode, signed, kin
 use Rattle.item.specs.Decode.{untwos}
 use Rattle.item.proofs.RoundTrip.{number-le, twos-back, twos-small}
 use Rattle.item.proofs.Size.{le-length, item-length}
-use Rattle.scalar.specs.Scalars.{keyText, boolText, intText}
-use Rattle.scalar.proofs.NumberLaws.{decimal-twenty}
+use Rattle.number.specs.Integers.{intText}
+use Rattle.number.proofs.Laws.{decimal-twenty}
+use Rattle.scalar.specs.Scalars.{keyText, boolText}
 use Rattle.nodes.specs.declared.Rendered.{Rendered}
 use Rattle.nodes.specs.declared.Rendered.the-variants.{Text, NoScalar}
 use Rattle.entries.specs.Entries.{Stands, FoundAt}

@@ -15,7 +15,8 @@ ghost use Rattle.item.specs.Tree.{Yaml, Ranged};
 ghost use Rattle.item.specs.Encode as items;
 ghost use Rattle.item.specs.Encode.{head, number, encode, signed};
 ghost use Rattle.item.specs.Decode.{untwos};
-ghost use Rattle.scalar.specs.Scalars.{keyText, boolText, intText};
+ghost use Rattle.number.specs.Integers.{intText};
+ghost use Rattle.scalar.specs.Scalars.{keyText, boolText};
 ghost use Rattle.entries.specs.Entries.{Stands, Finds};
 ghost use Rattle.nodes.specs.Contract.{Stored, Near, RendersAs, RendersNear};
 use item::Found;
@@ -23,9 +24,9 @@ use item::Header;
 use item::copy;
 use item::header_at;
 use item::put_header;
+use number::int_len;
+use number::put_int_text;
 use refusal::Refusal;
-use scalar::integers::int_len;
-use scalar::integers::put_int_text;
 
 // An integer by its sign and its magnitude.
 pub struct Integer {

@@ -16,11 +16,12 @@ use Rattle.item.proofs.Size.{item-length, encode-size}
 use Rattle.item.proofs.Same.{same-length}
 use Rattle.utf8.specs.Part.{part}
 use Rattle.utf8.specs.White.{trim}
+use Rattle.number.specs.Integers.{intText}
 use Rattle.scalar.specs.declared.Role.{Role}
 use Rattle.scalar.specs.declared.Role.the-variants.{AsValue, AsKey}
 use Rattle.scalar.specs.declared.Parsed.{Parsed}
 use Rattle.scalar.specs.declared.Parsed.the-variants.{Done, Refused}
-use Rattle.scalar.specs.Scalars.{nulls, trues, falses, boolText, intText, scalarOf}
+use Rattle.scalar.specs.Scalars.{nulls, trues, falses, boolText, scalarOf}
 use Rattle.scalar.specs.Read.{cost, charge, scalar, endsItem, endsColon, stopsPlain, plainText, onto, plain}
 use Rattle.scalar.specs.Contract.{written, isKey, AgreesParsed}
 use Rattle.scalar.specs.Code.{Puts, plainLen}

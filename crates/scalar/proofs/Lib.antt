@@ -1,6 +1,5 @@
 pub mod KeyLaws
 pub mod Laws
-pub mod NumberLaws
 pub mod QuoteLaws
 pub mod Open
 pub mod Copied

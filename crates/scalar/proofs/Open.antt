@@ -1,7 +1,7 @@
 -- Every definition of a file of `specs/` opened at once, for proofs that compute with them. Assumes nothing.
 use Rattle.scalar.specs.Key.{quoteAfter, opens, closes, lastOrSpace, depthAfter, qualifies, keyEndFrom, keyEnd}
 use Rattle.scalar.specs.Read.{cost, skipSpaces, endsItem, endsColon, stopsPlain, plainText, escape, charge, stop, scalar, doubleQuoted, singleQuoted, plain, string}
-use Rattle.scalar.specs.Scalars.{isDigit, allDigits, decimalFrom, zeroFirst, digits, positive, negative, integer, intOr, scalarOf, decimalOf, intText, boolText, keyText}
+use Rattle.scalar.specs.Scalars.{intOr, scalarOf, boolText, keyText}
 
 unfoldable pub Key-open : Unit {0}
 unfolding quoteAfter opens closes lastOrSpace depthAfter qualifies keyEndFrom keyEnd
@@ -12,5 +12,5 @@ unfolding cost skipSpaces endsItem endsColon stopsPlain plainText escape charge 
 Read-open = tt
 
 unfoldable pub Scalars-open : Unit {0}
-unfolding isDigit allDigits decimalFrom zeroFirst digits positive negative integer intOr scalarOf decimalOf intText boolText keyText
+unfolding intOr scalarOf boolText keyText
 Scalars-open = tt

@@ -17,9 +17,10 @@ use Rattle.utf8.specs.Utf8.{_‥_, within}
 use Rattle.utf8.proofs.Ranges.{if-both, in-range}
 use Rattle.item.specs.Tree.{str}
 use Rattle.item.specs.Encode.{signed}
-use Rattle.scalar.specs.Scalars.{isDigit, allDigits, decimalFrom, zeroFirst, digits, positive, negative, integer, nulls, trues, falses, intOr, scalarOf, decimalOf, intText, keyText}
-use Rattle.scalar.specs.Code.{bounded, minused}
-use Rattle.scalar.proofs.NumberLaws.{decimal-le, digits-zero, int-minus, int-bare, decimal-one, decimal-more, text-minus, text-bare}
+use Rattle.number.specs.Integers.{isDigit, allDigits, decimalFrom, zeroFirst, digits, positive, negative, integer, decimalOf, intText}
+use Rattle.number.specs.Code.{bounded, minused}
+use Rattle.number.proofs.Laws.{decimal-le, digits-zero, int-minus, int-bare, decimal-one, decimal-more, text-minus, text-bare}
+use Rattle.scalar.specs.Scalars.{nulls, trues, falses, intOr, scalarOf, keyText}
 
 -- ---- strings
 

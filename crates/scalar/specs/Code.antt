@@ -6,8 +6,6 @@ use mathlib.Core.List.{List, [], _∷_}
 use mathlib.Core.Bool.{Bool, true, false, _&&_}
 use mathlib.Core.Option.{Option, none, some}
 use mathlib.Core.Logic.{_⊎_}
-use lib.Dec.{leb}
-use lib.IntN.{ℤ}
 use lib.ListN.{length, drop}
 use lib.Seq.{sets}
 use Rattle.refusal.specs.Base.{Answer, good, if_then_else_, ch}
@@ -19,8 +17,6 @@ use Rattle.scalar.specs.declared.Parsed.{Parsed}
 use Rattle.scalar.specs.declared.Parsed.the-variants as parsed
 use Rattle.item.specs.declared.Found.{Found}
 use Rattle.item.specs.declared.Found.the-variants.{At, Nothing}
-use Rattle.scalar.specs.declared.integers.Number.{Number}
-use Rattle.scalar.specs.declared.integers.Number.the-variants as number
 use Rattle.scalar.specs.declared.plain_text.Kind.{Kind}
 use Rattle.scalar.specs.declared.plain_text.Kind.the-variants as kind
 use Rattle.scalar.specs.declared.quoted_text.Quote.{Quote}
@@ -47,22 +43,6 @@ Quoting q = (q ≡ 0) ⊎ ((q ≡ ch "\"") ⊎ (q ≡ ch "'"))
 -- a byte at which the search does nothing, whatever is open
 abbrev pub Passes : ℕ → Type 0
 Passes b = (q depth : ℕ) (bs : List ℕ) → Quoting q → (qualifies q depth (b ∷ bs) ≡ false) × (q ≡ quoteAfter q b) × (depth ≡ depthAfter q depth b)
-
--- ---- integers
-
-abbrev pub intOf : Number → Option ℤ
-intOf (number.Int negative magnitude) = some (signed negative magnitude)
-intOf number.No = none
-
--- a magnitude of at most `limit`, with its sign
-unfoldable pub bounded : Bool → ℕ → Option ℕ → Option ℤ
-bounded negative limit none = none
-bounded negative limit (some n) = if leb n limit then some (signed negative n) else none
-
--- digits behind a minus, or bare
-abbrev pub minused : Bool → List ℕ → List ℕ
-minused true ds = ch "-" ∷ ds
-minused false ds = ds
 
 -- ---- scalars
 

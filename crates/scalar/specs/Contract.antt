@@ -1,5 +1,5 @@
 -- Section 2 of document 01, for contracts: the answer of a reader and the bytes that it wrote. Uses Base and Told of `refusal`; Tree and
--- Encode of `item`; Scalars and Read of this crate. Assumes nothing.
+-- Encode of `item`; Integers of `number`; Scalars and Read of this crate. Assumes nothing.
 use mathlib.Core.Path.{_≡_}
 use Prim.Native.Nat.{ℕ, _+_, _≤_}
 use mathlib.Core.List.{List, []}
@@ -11,11 +11,12 @@ use Rattle.refusal.specs.Told.{refusal}
 use Rattle.refusal.specs.declared.Refusal.{Refusal}
 use Rattle.item.specs.Tree.{Yaml, null, bool, int, str, seq, dict}
 use Rattle.item.specs.Encode.{item, encode}
+use Rattle.number.specs.Integers.{intText}
 use Rattle.scalar.specs.declared.Role.{Role}
 use Rattle.scalar.specs.declared.Role.the-variants.{AsValue, AsKey}
 use Rattle.scalar.specs.declared.Parsed.{Parsed}
 use Rattle.scalar.specs.declared.Parsed.the-variants.{Done, Refused}
-use Rattle.scalar.specs.Scalars.{boolText, intText}
+use Rattle.scalar.specs.Scalars.{boolText}
 use Rattle.scalar.specs.Read.{Got}
 
 -- the bytes that a value is written as: its item; a key the item of its text, a null key nothing

@@ -1,5 +1,5 @@
 -- Section 2 of document 01: one line's scalars, and what they add to the running sum of refusal 50. Uses Base of `refusal`; White of
--- `utf8`; Tree of `item`; Scalars of this crate. Assumes nothing.
+-- `utf8`; Tree of `item`; Integers of `number`; Scalars of this crate. Assumes nothing.
 use Prim.Native.Nat.{ℕ, _+_}
 use mathlib.Core.List.{List, [], _∷_}
 use mathlib.Core.Bool.{Bool, true, false, _&&_, _||_}
@@ -9,9 +9,10 @@ use lib.ListN.{length}
 use Rattle.refusal.specs.Base.{Answer, good, refused, _>>=_, if_then_else_, ch}
 use Rattle.utf8.specs.White.{trim}
 use Rattle.item.specs.Tree.{Yaml, null, bool, int, str, seq, dict}
+use Rattle.number.specs.Integers.{intText}
 use Rattle.scalar.specs.declared.Role.{Role}
 use Rattle.scalar.specs.declared.Role.the-variants.{AsValue, AsKey}
-use Rattle.scalar.specs.Scalars.{scalarOf, boolText, intText}
+use Rattle.scalar.specs.Scalars.{scalarOf, boolText}
 
 -- ---- what a reading adds to the running sum, and refusal 50
 

@@ -12,6 +12,7 @@ use Rattle.item.proofs.Open as Item
 use Rattle.item.specs.Encode.{encode}
 use Rattle.item.proofs.Open.{Encode-open}
 use Rattle.lines.proofs.Open.{Lines-open}
+use Rattle.number.proofs.Open.{Integers-open}
 use Rattle.scalar.proofs.Open.{Scalars-open, Key-open, Read-open}
 use Rattle.flow.proofs.Open.{Flow-open}
 use Rattle.literal.proofs.Open.{Literal-open}
@@ -66,7 +67,7 @@ tried =
     ∷ []
 
 pub tried-hold : map (λ (c : Case). drumread (c .0)) tried ≡ map (λ (c : Case). c .1) tried
-unfolding tried drumread print stepsPrint stepFields builtInSteps Base-open Utf8-open White-open Item.Tree-open Encode-open Lines-open Scalars-open Key-open Read-open Flow-open Literal-open Block-open Tree-open Record-open StepLines-open Meanings-open Scenario-open
+unfolding tried drumread print stepsPrint stepFields builtInSteps Base-open Utf8-open White-open Item.Tree-open Encode-open Lines-open Integers-open Scalars-open Key-open Read-open Flow-open Literal-open Block-open Tree-open Record-open StepLines-open Meanings-open Scenario-open
 tried-hold = refl
 
 -- the try-out scenario with just enough lent, and with one less of each: 50, 52, 51
@@ -78,7 +79,7 @@ lent work room places = scenario work room places (bytes tryOut) >>= λ r. good 
 
 pub lent-hold : (lent 115 133 1 ∷ lent 114 133 1 ∷ lent 115 132 1 ∷ lent 115 133 0 ∷ [])
     ≡ (good (133, 115, 1, (4, 6) ∷ []) ∷ refused 50 0 0 ∷ refused 52 0 0 ∷ refused 51 0 0 ∷ [])
-unfolding print stepsPrint stepFields builtInSteps Base-open Utf8-open White-open Item.Tree-open Encode-open Lines-open Scalars-open Key-open Read-open Flow-open Literal-open Block-open Tree-open Record-open StepLines-open Meanings-open Scenario-open
+unfolding print stepsPrint stepFields builtInSteps Base-open Utf8-open White-open Item.Tree-open Encode-open Lines-open Integers-open Scalars-open Key-open Read-open Flow-open Literal-open Block-open Tree-open Record-open StepLines-open Meanings-open Scenario-open
 lent-hold = refl
 
 -- two writings of one meaning have one record
@@ -86,5 +87,5 @@ pub two-writings : (do
   r ← scenario 115 133 1 (bytes tryOut)
   q ← scenario 115 133 1 (bytes "{schema: passportsim/scenario@1, name: noon, steps: [{strike: 5}]}")
   good (same (recordOf (r .meaning)) (recordOf (q .meaning)))) ≡ good true
-unfolding stepFields builtInSteps Base-open Utf8-open White-open Item.Tree-open Encode-open Lines-open Scalars-open Key-open Read-open Flow-open Literal-open Block-open Tree-open Record-open StepLines-open Meanings-open Scenario-open
+unfolding stepFields builtInSteps Base-open Utf8-open White-open Item.Tree-open Encode-open Lines-open Integers-open Scalars-open Key-open Read-open Flow-open Literal-open Block-open Tree-open Record-open StepLines-open Meanings-open Scenario-open
 two-writings = refl

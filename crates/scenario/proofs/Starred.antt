@@ -11,6 +11,7 @@ use Rattle.utf8.proofs.Open.{Utf8-open, White-open}
 use Rattle.item.specs.Tree.{Yaml, null, int, str, seq, dict, end, _▸_, done, pair}
 use Rattle.item.proofs.Open as Item
 use Rattle.lines.proofs.Open.{Lines-open}
+use Rattle.number.proofs.Open.{Integers-open}
 use Rattle.scalar.proofs.Open.{Scalars-open, Key-open, Read-open}
 use Rattle.flow.proofs.Open.{Flow-open}
 use Rattle.literal.proofs.Open.{Literal-open}
@@ -55,5 +56,5 @@ starred =
     ∷ []
 
 pub starred-hold : map defined starred ≡ starred
-unfolding starred defined sizesOf Base-open Utf8-open White-open Item.Tree-open Lines-open Scalars-open Key-open Read-open Flow-open Literal-open Block-open Tree-open StepLines-open Meanings-open Scenario-open
+unfolding starred defined sizesOf Base-open Utf8-open White-open Item.Tree-open Lines-open Integers-open Scalars-open Key-open Read-open Flow-open Literal-open Block-open Tree-open StepLines-open Meanings-open Scenario-open
 starred-hold = refl

@@ -12,7 +12,8 @@ use borrow.Author.Tests.{ne-eqb, ltb-true}
 use Rattle.refusal.specs.Base.{good, refused, maybe, ensure, if_then_else_, bytes, same}
 use Rattle.item.specs.Tree.{Yaml, null, bool, int, str, seq, dict, end}
 use Rattle.item.specs.Encode.{encode, kindOf}
-use Rattle.scalar.specs.Scalars.{keyText, intText, boolText, decimalOf}
+use Rattle.number.specs.Integers.{decimalOf, intText}
+use Rattle.scalar.specs.Scalars.{keyText, boolText}
 use Rattle.entries.specs.Entries.{Stands, Holds, FoundAt, content}
 use Rattle.entries.proofs.Standing.{stands-part, Valued}
 use Rattle.entries.proofs.Values.{items-of}

@@ -12,7 +12,8 @@ use borrow.Author.Tests.{leb-true}
 use Rattle.refusal.specs.Base.{Answer, good, _>>=_, _>>_, ensure, oneOf}
 use Rattle.refusal.proofs.Tools.{good-inj, refused≢good, chosen}
 use Rattle.item.specs.Tree.{Shape, Node, Yaml, null, bool, int, str, seq, dict, Items, end, _◂_, Entries, done, pair, add, levels, hasKey, Ranged}
-use Rattle.scalar.specs.Scalars.{integer, intOr, scalarOf, nulls, trues, falses}
+use Rattle.number.specs.Integers.{integer}
+use Rattle.scalar.specs.Scalars.{intOr, scalarOf, nulls, trues, falses}
 use Rattle.scalar.specs.Read.{charge}
 use Rattle.flow.specs.Flow.{fresh}
 use Rattle.tree.proofs.Levels.{levels-snoc, levels-add}

@@ -11,7 +11,7 @@ use borrow.Author.Tests.{leb-true, ltb-true}
 use Rattle.refusal.specs.Base.{ch}
 use Rattle.refusal.proofs.Tools.{chosen}
 use Rattle.item.specs.Tree.{Yaml, Items, end, _▸_, _◂_, Entries, done, pair, add, Ranged}
-use Rattle.scalar.specs.Scalars.{digits, positive, negative, integer}
+use Rattle.number.specs.Integers.{digits, positive, negative, integer}
 
 pub ranged-snoc : (ys : Items) (y : Yaml) → Ranged ys → Ranged y → Ranged (ys ◂ y)
 unfolding _◂_

@@ -12,7 +12,8 @@ use Rattle.refusal.proofs.Tools.{good-inj, refused≢good}
 use Rattle.utf8.specs.Utf8.{Utf8}
 use Rattle.utf8.proofs.Utf8Laws.{utf8-append, utf8-nil, utf8-ascii, utf8-cut}
 use Rattle.item.specs.Tree.{Shape, Node, Yaml, null, bool, int, str, seq, dict, Items, end, _▸_, _◂_, Entries, done, pair, add}
-use Rattle.scalar.specs.Scalars.{keyText, boolText, intText, decimalOf}
+use Rattle.number.specs.Integers.{decimalOf, intText}
+use Rattle.scalar.specs.Scalars.{keyText, boolText}
 
 -- every string and every key
 abbrev pub Texts : {s : Shape} → Node s → Type 0

@@ -16,7 +16,8 @@ use Rattle.utf8.specs.Points.{inAny}
 use Rattle.item.specs.Tree.{Yaml}
 use Rattle.item.specs.Tree as Tree
 use Rattle.item.proofs.Same.{same-eq}
-use Rattle.scalar.specs.Scalars.{isDigit, allDigits, decimalFrom, zeroFirst, digits, positive, negative, integer, nulls, trues, falses, intOr, scalarOf}
+use Rattle.number.specs.Integers.{isDigit, allDigits, decimalFrom, zeroFirst, digits, positive, negative, integer}
+use Rattle.scalar.specs.Scalars.{nulls, trues, falses, intOr, scalarOf}
 use Rattle.yaml.specs.Represent.{Rep, asYaml, fits64}
 use Rattle.yaml.specs.Core.{Regex, never, some-of, _·_, _∣_, star, nullable, behind, matches, byte, word, plus, digit, sign, nullText, trueText}
 use Rattle.yaml.specs.Core.{falseText, decimalText, octalText, hexText, floatText, fromOne, unsigned, jsonDecimalText, digitOf, number, signed, Core, to-null, to-true, to-false, to-decimal}

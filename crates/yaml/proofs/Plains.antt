@@ -12,6 +12,7 @@ use Rattle.yaml.proofs.Open.{Scalars-open as Texts-open, Characters-ope
 use Rattle.yaml.proofs.Tests.{and-two}
 use Rattle.utf8.proofs.Open.{Utf8-open, Points-open, White-open}
 use Rattle.item.proofs.Open.{Tree-open}
+use Rattle.number.proofs.Open.{Integers-open}
 use Rattle.scalar.proofs.Open.{Scalars-open, Key-open}
 use Rattle.lines.proofs.Open.{Lines-open}
 
@@ -54,5 +55,5 @@ module _ (c : Context) where
   is-plain (b ∷ t) h = let k = and-two (plainFirst c b t) (plainRest c b t) h in plain (k .0) (rest-is b t (k .1))
 
 unfoldable pub All-open : Unit {0}
-unfolding Base-open Utf8-open Points-open White-open Tree-open Scalars-open Key-open Lines-open Characters-open Represent-open Core-open Texts-open Flow-open Rows-open Block-open Kept-open plainRest isPlain
+unfolding Base-open Utf8-open Points-open White-open Tree-open Integers-open Scalars-open Key-open Lines-open Characters-open Represent-open Core-open Texts-open Flow-open Rows-open Block-open Kept-open plainRest isPlain
 All-open = tt

@@ -9,7 +9,7 @@ use lib.Seq.{sets}
 use Rattle.item.specs.Encode.{head, signed}
 use Rattle.item.proofs.Size.{item-length}
 use Rattle.item.proofs.Runs.{sets-item}
-use Rattle.scalar.specs.Scalars.{intText}
+use Rattle.number.specs.Integers.{intText}
 use Rattle.nodes.proofs.put_integer.Statement.{statement}
 use Rattle.nodes.proofs.put_integer.Tie as tie
 

@@ -7,7 +7,7 @@ use lib.Seq.{sets}
 use Rattle.item.specs.Encode.{head, signed}
 use Rattle.item.proofs.Size.{item-length}
 use Rattle.item.proofs.Runs.{sets-item}
-use Rattle.scalar.specs.Scalars.{intText}
+use Rattle.number.specs.Integers.{intText}
 use borrow.Author.Needs.{needs}
 use Rattle.scalar.proofs.plain_text.int_key_at.Statement.{statement}
 use Rattle.scalar.proofs.plain_text.int_key_at.Tie as tie

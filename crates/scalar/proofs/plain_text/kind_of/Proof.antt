@@ -1,8 +1,8 @@
 -- By the tests. Assumes nothing.
 use mathlib.Core.Path.{sym, ap, _∙_}
 use Rattle.refusal.specs.Base.{if_then_else_}
+use Rattle.number.specs.Code.{intOf}
 use Rattle.scalar.specs.Scalars.{scalarOf, intOr}
-use Rattle.scalar.specs.Code.{intOf}
 use borrow.Author.Needs.{needs}
 use Rattle.scalar.proofs.plain_text.kind_of.Statement.{statement}
 use Rattle.scalar.proofs.plain_text.kind_of.Tie as tie

@@ -1,11 +1,11 @@
-// Integers: decimal digits read and written.
+// Integers: decimal digits read and written (document 01, section 2).
 ghost use mathlib.Core.Path.{_≡_};
 ghost use Prim.Native.Nat.{_+_, _≤_, _<_, _^_};
 ghost use lib.ListN.{length, drop};
 ghost use lib.Seq.{sets};
 ghost use Rattle.item.specs.Encode.{signed};
-ghost use Rattle.scalar.specs.Scalars.{zeroFirst, digits, integer, decimalOf, intText};
-ghost use Rattle.scalar.specs.Code.{intOf, bounded, minused};
+ghost use Rattle.number.specs.Integers.{zeroFirst, digits, integer, decimalOf, intText};
+ghost use Rattle.number.specs.Code.{intOf, bounded, minused};
 
 // An integer by its sign and its magnitude, or no integer.
 pub enum Number {

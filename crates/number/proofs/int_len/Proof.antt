@@ -3,11 +3,11 @@ use native.Mathlib.Omega.{arith}
 use mathlib.Core.Path.{_≡_, ap, _∙_}
 use mathlib.Core.Bool.{Bool, true, false}
 use Rattle.item.specs.Encode.{signed}
-use Rattle.scalar.specs.Scalars.{decimalOf, intText}
-use Rattle.scalar.specs.Code.{minused}
+use Rattle.number.specs.Integers.{decimalOf, intText}
+use Rattle.number.specs.Code.{minused}
 use borrow.Author.Needs.{needs}
-use Rattle.scalar.proofs.integers.int_len.Statement.{statement}
-use Rattle.scalar.proofs.integers.int_len.Tie as tie
+use Rattle.number.proofs.int_len.Statement.{statement}
+use Rattle.number.proofs.int_len.Tie as tie
 
 returns : tie.Need-returns
 returns c = let a = c .before .before .before .args in

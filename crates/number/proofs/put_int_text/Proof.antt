@@ -7,11 +7,11 @@ use mathlib.Core.Bool.{Bool, true, false}
 use lib.ListN.{length, set, length-set}
 use lib.Seq.{sets}
 use Rattle.item.specs.Encode.{signed}
-use Rattle.scalar.specs.Scalars.{decimalOf, intText}
-use Rattle.scalar.specs.Code.{minused}
+use Rattle.number.specs.Integers.{decimalOf, intText}
+use Rattle.number.specs.Code.{minused}
 use borrow.Author.Needs.{needs}
-use Rattle.scalar.proofs.integers.put_int_text.Statement.{statement}
-use Rattle.scalar.proofs.integers.put_int_text.Tie as tie
+use Rattle.number.proofs.put_int_text.Statement.{statement}
+use Rattle.number.proofs.put_int_text.Tie as tie
 
 slice-write-out : tie.Need-slice-write-out
 slice-write-out c = let a = c .before .before .before .args in

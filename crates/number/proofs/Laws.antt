@@ -16,8 +16,8 @@ use Rattle.utf8.specs.Utf8.{_‥_}
 use Rattle.utf8.proofs.Ranges.{inside, below, above}
 use Rattle.item.specs.Encode.{signed}
 use Rattle.item.proofs.Runs.{sets-before}
-use Rattle.scalar.specs.Scalars.{isDigit, allDigits, decimalFrom, zeroFirst, digits, positive, negative, integer, decimalOf, intText}
-use Rattle.scalar.specs.Code.{bounded, minused}
+use Rattle.number.specs.Integers.{isDigit, allDigits, decimalFrom, zeroFirst, digits, positive, negative, integer, decimalOf, intText}
+use Rattle.number.specs.Code.{bounded, minused}
 
 -- ---- digits that are read
 

@@ -4,10 +4,10 @@ use native.Mathlib.Omega.{arith}
 use Prim.Native.Nat.{_+_, _≤_, _<_, _^_}
 use mathlib.Core.Path.{_≡_}
 use lib.ListN.{length}
-use Rattle.scalar.specs.Scalars.{decimalOf}
-use Rattle.scalar.proofs.NumberLaws.{decimal-twenty, length-one, length-more}
-use Rattle.scalar.proofs.integers.decimal_len.Statement.{statement}
-use Rattle.scalar.proofs.integers.decimal_len.Tie as tie
+use Rattle.number.specs.Integers.{decimalOf}
+use Rattle.number.proofs.Laws.{decimal-twenty, length-one, length-more}
+use Rattle.number.proofs.decimal_len.Statement.{statement}
+use Rattle.number.proofs.decimal_len.Tie as tie
 
 abbrev Inv-loop : tie.InvT-loop
 Inv-loop n left₀ count₀ left count = (left < 2 ^ 64) × (count + length (decimalOf 20 left) ≤ 21) × (count + length (decimalOf 20 left) ≡ length (decimalOf 20 n) + 1)

@@ -4,11 +4,11 @@ use native.Mathlib.Omega.{arith}
 use mathlib.Core.Path.{_≡_, sym, ap, _∙_}
 use Prim.Native.Nat.{ℕ, _+_, _*_, _≤_, _-_}
 use lib.ListN.{length, drop}
-use Rattle.scalar.specs.Scalars.{digits}
-use Rattle.scalar.specs.Code.{bounded}
-use Rattle.scalar.proofs.NumberLaws.{digitsFrom, digits-none, digits-zero, digits-start, from-low, from-high, from-over, from-on, from-end}
-use Rattle.scalar.proofs.integers.digits.Statement.{statement}
-use Rattle.scalar.proofs.integers.digits.Tie as tie
+use Rattle.number.specs.Integers.{digits}
+use Rattle.number.specs.Code.{bounded}
+use Rattle.number.proofs.Laws.{digitsFrom, digits-none, digits-zero, digits-start, from-low, from-high, from-over, from-on, from-end}
+use Rattle.number.proofs.digits.Statement.{statement}
+use Rattle.number.proofs.digits.Tie as tie
 
 abbrev Inv-loop : tie.InvT-loop
 Inv-loop t from negative limit i₀ magnitude₀ i magnitude = (i ≤ length t) × (magnitude ≤ limit) × (bounded negative limit (digits (drop from t)) ≡ bounded negative limit (digitsFrom magnitude (drop i t)))

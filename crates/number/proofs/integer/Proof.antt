@@ -1,9 +1,9 @@
 -- By the first byte. Assumes nothing.
 use mathlib.Core.Path.{sym, _∙_}
-use Rattle.scalar.proofs.NumberLaws.{int-none, int-minus, int-bare}
+use Rattle.number.proofs.Laws.{int-none, int-minus, int-bare}
 use borrow.Author.Needs.{needs}
-use Rattle.scalar.proofs.integers.integer.Statement.{statement}
-use Rattle.scalar.proofs.integers.integer.Tie as tie
+use Rattle.number.proofs.integer.Statement.{statement}
+use Rattle.number.proofs.integer.Tie as tie
 
 returns : tie.Need-returns
 returns c = sym (int-none (c .before .before .args .t .now) (c .if1 .taken))

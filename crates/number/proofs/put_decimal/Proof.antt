@@ -5,10 +5,10 @@ use mathlib.Core.Path.{_≡_, refl, sym, ap, _∙_}
 use Prim.Native.Nat.{_+_, _≤_, _<_, _^_}
 use lib.ListN.{length, length-set}
 use lib.Seq.{sets}
-use Rattle.scalar.specs.Scalars.{decimalOf}
-use Rattle.scalar.proofs.NumberLaws.{length-one, length-more, decimal-one, digit-back}
-use Rattle.scalar.proofs.integers.put_decimal.Statement.{statement}
-use Rattle.scalar.proofs.integers.put_decimal.Tie as tie
+use Rattle.number.specs.Integers.{decimalOf}
+use Rattle.number.proofs.Laws.{length-one, length-more, decimal-one, digit-back}
+use Rattle.number.proofs.put_decimal.Statement.{statement}
+use Rattle.number.proofs.put_decimal.Tie as tie
 
 abbrev Inv-loop : tie.InvT-loop
 Inv-loop out₀ at n left₀ end₀ out left end = (left < 2 ^ 64) × (length out ≡ length out₀) × (end ≤ length out₀) × (end ≡ at + length (decimalOf 20 left)) × (sets out at (decimalOf 20 left) ≡ sets out₀ at (decimalOf 20 n))

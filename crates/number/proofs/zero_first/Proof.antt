@@ -2,9 +2,9 @@
 use mathlib.Core.Path.{sym}
 use native.Mathlib.Omega.{arith}
 use borrow.Author.Needs.{needs}
-use Rattle.scalar.proofs.NumberLaws.{zero-one, zero-more}
-use Rattle.scalar.proofs.integers.zero_first.Statement.{statement}
-use Rattle.scalar.proofs.integers.zero_first.Tie as tie
+use Rattle.number.proofs.Laws.{zero-one, zero-more}
+use Rattle.number.proofs.zero_first.Statement.{statement}
+use Rattle.number.proofs.zero_first.Tie as tie
 
 returns : tie.Need-returns
 returns c = let a = c .before .args in sym (zero-one (a .t .now) (a .from) (search needs) (omega arith))

@@ -1,7 +1,7 @@
 -- By the tests. Assumes nothing.
-use Rattle.scalar.proofs.NumberLaws.{text-minus, text-bare}
-use Rattle.scalar.proofs.integers.shows_minus.Statement.{statement}
-use Rattle.scalar.proofs.integers.shows_minus.Tie as tie
+use Rattle.number.proofs.Laws.{text-minus, text-bare}
+use Rattle.number.proofs.shows_minus.Statement.{statement}
+use Rattle.number.proofs.shows_minus.Tie as tie
 
 returns : tie.Need-returns
 returns c = rw (c .if1 .taken) (text-minus (c .before .args .magnitude))
