@@ -570,7 +570,7 @@ def rows_kept_term(rows):
             out.append('((refl, refl), refl, refl, %s)')
             d, gap = (row[1] + k, False) if opens(row[2][k:]) else (None, False)
         elif row[0] == 'body':
-            out.append('(omega arith, (refl, refl), refl, %s)' if gap else '(omega arith, (refl, refl), %s)')
+            out.append('(omega arith, (refl, refl), %s)')
             gap = False
         else: gap = True
     t = 'tt'

@@ -195,7 +195,6 @@ def kept_rows(rows):
                 d, gap = (row[1] + k, False) if opens(t[k:]) else (None, False)
             else:
                 if row[1] <= d: bad.append('body-not-deeper')
-                if gap and t[:1] == b' ': bad.append('blank-before-deeper')
                 gap = False
         elif d is None: bad.append('blank-in-closed-body')
         else: gap = True

@@ -41,7 +41,7 @@ def lines_of(rows):
     for n, r in enumerate(rows, 1):
         if r[0] == 'node': out.append((r[1], r[2], n))
         elif r[0] == 'body': out.append((r[1] + indent_of(r[2]), r[2][indent_of(r[2]):], n))
-        elif r[0] == 'blank': out.append((next(x[1] for x in rows[n:] if x[0] == 'body'), b'', n))
+        elif r[0] == 'blank': out.append((next(x[1] + indent_of(x[2]) for x in rows[n:] if x[0] == 'body'), b'', n))
     return out
 
 

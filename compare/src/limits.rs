@@ -13,6 +13,10 @@ const TEXT_BYTES: usize = 65_535;
 const ENTRIES: usize = 2_048;
 const LEVELS: usize = 32;
 
+/// What a byte of text adds at most to the running sum of 50: a digit as an integer. By P3 a literal's
+/// line gives no more bytes than it has, with its newline.
+const MOST_FOR_A_BYTE: usize = 14;
+
 const DRUMREAD_BYTES: usize = 65_536;
 const DRUMREAD_STEPS: usize = 512;
 
@@ -59,7 +63,7 @@ impl Limits {
                 (false, true) => return refuse(50, 0),
                 (true, true) => return "unsure".to_owned(),
             },
-            None if may_be_deep(&scanned) || may_be_long(text, work) => {
+            None if may_be_deep(&scanned) || MOST_FOR_A_BYTE * text.len() > work => {
                 return "unsure".to_owned();
             }
             None => {}
@@ -155,12 +159,4 @@ fn drumread_refusal(rust: &str) -> Option<u32> {
         [record, _, _] if record > DRUMREAD_BYTES => Some(52),
         _ => None,
     }
-}
-
-/// Whether the running sum of 50 may pass the bytes of work. A byte of text adds 14 at most (a
-/// digit as an integer); a literal's line gives up to the longest line.
-fn may_be_long(text: &str, work: usize) -> bool {
-    let longest = text.lines().map(str::len).max().unwrap_or(0);
-    let literals = if text.contains('|') { text.lines().count() * (longest + 1) } else { 0 };
-    14 * text.len() + literals > work
 }

@@ -28,3 +28,20 @@ pub fn integer(text: &str) -> Result<i64, ()> {
         Err(_) => Err(()),
     }
 }
+
+/// P3: the extra spaces of the first of these lines, each with its indentation and its text, in a
+/// literal whose first line is indented by `first`. Blank lines directly before a body line that
+/// is deeper than that have none.
+pub fn extra_spaces<'a>(first: usize, mut lines: impl Iterator<Item = (usize, &'a str)>) -> String {
+    let Some((indent, text)) = lines.next() else {
+        return String::new();
+    };
+    let spaces = " ".repeat(indent - first);
+    let bare = text.is_empty()
+        && lines.find(|(_, text)| !text.is_empty()).is_some_and(|(indent, _)| indent > first);
+    if bare && !spaces.is_empty() {
+        CHANGED.store(true, Relaxed);
+        return String::new();
+    }
+    spaces
+}

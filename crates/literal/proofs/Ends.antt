@@ -13,7 +13,8 @@ use Rattle.lines.specs.Lines.{Line}
 use Rattle.lines.specs.Ready.{Closed, Ended, none, blank, full}
 use Rattle.lines.proofs.Ends.{closed-append}
 use Rattle.literal.specs.Literal.{literalLine, literalLines, allNewlines, dropNewlines}
-use Rattle.literal.proofs.Laws.{line-length, lines-stop, lines-more}
+use Rattle.literal.proofs.Blanks.{closed-some, line-full, line-some}
+use Rattle.literal.proofs.Laws.{lines-stop, lines-more}
 
 -- ---- literals
 
@@ -37,22 +38,24 @@ module _ (indent : ℕ) where
   body-stop : (l : Line) (ls : List Line) → l .indent < indent → body (l ∷ ls) ≡ []
   body-stop l ls h = ap (λ (b : List ℕ × List Line). b .0) (lines-stop indent l ls h)
 
-  body-more : (l : Line) (ls : List Line) → indent ≤ l .indent → body (l ∷ ls) ≡ literalLine indent l ++ body ls
+  body-more : (l : Line) (ls : List Line) → indent ≤ l .indent → body (l ∷ ls) ≡ literalLine indent l ls ++ body ls
   body-more l ls h = ap (λ (b : List ℕ × List Line). b .0) (lines-more indent l ls h)
 
   body-some : (l : Line) (ls : List Line) → indent ≤ l .indent → 0 < length (body (l ∷ ls))
-  body-some l ls h = omega (arith, ap length (body-more l ls h), length-append (literalLine indent l) (body ls), line-length indent l)
+  body-some l ls h = omega (arith, ap length (body-more l ls h), length-append (literalLine indent l ls) (body ls), line-some indent l ls)
 
-  line-tail : (l : Line) → Closed (l .text) → Tail (literalLine indent l)
-  unfolding literalLine
-  line-tail l c = record { kept = replicate (l .indent - indent) (ch " ") ++ l .text; is = refl; closed = closed-append (replicate (l .indent - indent) (ch " ")) (l .text) c }
+  line-tail : (l : Line) (ls : List Line) → Closed (l .text) → Tail (literalLine indent l ls)
+  line-tail l ls c =
+      let front : List ℕ = replicate (l .indent - indent) (ch " ") in
+      rw (line-full indent l ls (closed-some (l .text) c))
+      (record { kept = front ++ l .text; is = refl; closed = closed-append front (l .text) c })
 
-  full-tail : (l : Line) (b : List ℕ) → Closed (l .text) → (0 < length b → Tail b) → Tail (literalLine indent l ++ b)
-  full-tail l [] c h = rw (append-nil (literalLine indent l)) (line-tail l c)
-  full-tail l (x ∷ b) c h = tail-append (literalLine indent l) (x ∷ b) (h (omega arith))
+  full-tail : (l : Line) (ls : List Line) (b : List ℕ) → Closed (l .text) → (0 < length b → Tail b) → Tail (literalLine indent l ls ++ b)
+  full-tail l ls [] c h = rw (append-nil (literalLine indent l ls)) (line-tail l ls c)
+  full-tail l ls (x ∷ b) c h = tail-append (literalLine indent l ls) (x ∷ b) (h (omega arith))
 
   -- a line, and then the lines behind it
-  tail-more : (l : Line) (ls : List Line) → 0 < length (body (l ∷ ls)) → (indent ≤ l .indent → Tail (literalLine indent l ++ body ls)) → Tail (body (l ∷ ls))
+  tail-more : (l : Line) (ls : List Line) → 0 < length (body (l ∷ ls)) → (indent ≤ l .indent → Tail (literalLine indent l ls ++ body ls)) → Tail (body (l ∷ ls))
   tail-more l ls h k = go (leb indent (l .indent)) refl
     where
       go : (t : Bool) → leb indent (l .indent) ≡ t → Tail (body (l ∷ ls))
@@ -62,8 +65,8 @@ module _ (indent : ℕ) where
   body-tail : {ls : List Line} → Ended ls → 0 < length (body ls) → Tail (body ls)
   unfolding literalLines
   body-tail none h = absurd (omega arith)
-  body-tail (full l ls c e) h = tail-more l ls h λ k. full-tail l (body ls) c (body-tail e)
-  body-tail (blank l m ls t i e) h = tail-more l (m ∷ ls) h λ k. tail-append (literalLine indent l) (body (m ∷ ls)) (body-tail e (body-some m ls (omega arith)))
+  body-tail (full l ls c e) h = tail-more l ls h λ k. full-tail l ls (body ls) c (body-tail e)
+  body-tail (blank l m ls t i e) h = tail-more l (m ∷ ls) h λ k. tail-append (literalLine indent l (m ∷ ls)) (body (m ∷ ls)) (body-tail e (body-some m ls (omega arith)))
 
 -- ---- what `|-` keeps
 

@@ -1,51 +1,53 @@
 -- What one line more tells of a literal, and what is written for it. Assumes nothing.
-use mathlib.Core.Path.{_≡_, refl, sym, ap, _∙_}
+use mathlib.Core.Path.{_≡_, refl, sym, ap, _∙_, subst}
 use Prim.Native.Nat.{ℕ, _+_, _*_, _-_, _≤_, _<_}
 use native.Mathlib.Omega.{arith}
 use mathlib.Core.List.{List, [], _∷_, _++_}
 use mathlib.Core.Bool.{Bool, true, false}
-use lib.Dec.{leb}
+use lib.Dec.{leb, eqb}
 use lib.ListN.{length, take, drop, set, getD, replicate, length-append, length-replicate, replicate-append-replicate}
 use lib.Seq.{sets, take-all, take-append-le, take-append-add, take-at, take-nil}
-use borrow.Author.Tests.{le-leb, lt-leb, leb-true, leb-false}
-use Rattle.refusal.specs.Base.{if_then_else_, ch, good, refused, _>>=_}
+use borrow.Author.Tests.{le-leb, lt-leb, leb-true, leb-false, eqb-true, eqb-false}
+use Rattle.refusal.specs.Base.{if_then_else_, ch, empty, good, refused, _>>=_}
 use Rattle.utf8.specs.Part.{part}
-use Rattle.utf8.proofs.Laws.{part-length}
+use Rattle.utf8.proofs.Laws.{part-cons, part-length}
 use Rattle.item.specs.Tree.{str}
 use Rattle.item.specs.Encode.{encode, head}
 use Rattle.item.proofs.Size.{item-length}
 use Rattle.item.proofs.Runs.{sets-append, sets-item}
 use Rattle.lines.specs.Lines.{Line}
 use Rattle.lines.specs.declared.Entry.{Entry}
-use Rattle.lines.specs.Table.{lineAt, tableLines, Placed, IsEntry}
+use Rattle.lines.specs.Table.{startAt, endAt, lineAt, tableLines, IsEntry}
+use Rattle.lines.specs.Ready.{Ended, Ready}
 use Rattle.lines.proofs.Rows.{rows-next, rows-end}
+use Rattle.lines.proofs.Ends.{ended-drop}
 use Rattle.scalar.specs.Read.{cost, charge}
 use Rattle.literal.specs.Literal.{leaf, onto, literalLine, literalLines}
-use Rattle.literal.specs.Walk.{bodyFrom, restFrom, Extent}
+use Rattle.literal.specs.Walk.{bodyFrom, restFrom, extraSpaces, Extent}
 use Rattle.literal.proofs.Walk.{Counted}
 use Rattle.literal.specs.Contract.{WroteBlock}
+use Rattle.literal.proofs.Blanks.{bare, line-full}
 
 -- ---- lines
 
-module _ (indent : ℕ) (l : Line) where
-  pub line-length : length (literalLine indent l) ≡ l .indent - indent + length (l .text) + 1
-  unfolding literalLine
-  line-length = simp (length-append, length-replicate) (omega arith)
+module _ (indent : ℕ) (l : Line) (ls : List Line) where
+  pub lines-stop : l .indent < indent → literalLines indent (l ∷ ls) ≡ ([], l ∷ ls)
+  unfolding literalLines if_then_else_
+  lines-stop h = rw (lt-leb indent (l .indent) h)
 
-  module _ (ls : List Line) where
-    pub lines-stop : l .indent < indent → literalLines indent (l ∷ ls) ≡ ([], l ∷ ls)
-    unfolding literalLines if_then_else_
-    lines-stop h = rw (lt-leb indent (l .indent) h)
-
-    pub lines-more : indent ≤ l .indent → literalLines indent (l ∷ ls) ≡ onto (literalLine indent l) (literalLines indent ls)
-    unfolding literalLines if_then_else_
-    lines-more h = rw (le-leb indent (l .indent) h)
+  pub lines-more : indent ≤ l .indent → literalLines indent (l ∷ ls) ≡ onto (literalLine indent l ls) (literalLines indent ls)
+  unfolding literalLines if_then_else_
+  lines-more h = rw (le-leb indent (l .indent) h)
 
 -- ---- the lines of a table
 
 module _ (text table : List ℕ) (count indent : ℕ) where
   abbrev ls : List Line
   ls = tableLines text table count
+
+  -- what row `i` gives
+  abbrev pub rowBytes : ℕ → List ℕ
+  rowBytes i = literalLine indent (lineAt text table i) (drop (i + 1) (tableLines text table count))
 
   pub row-end : literalLines indent (drop count (tableLines text table count)) ≡ ([], drop count (tableLines text table count))
   unfolding literalLines
@@ -56,31 +58,45 @@ module _ (text table : List ℕ) (count indent : ℕ) where
     row-stop k = rw (rows-next text table count i h) (lines-stop indent (lineAt text table i) (drop (i + 1) ls) k)
 
     module _ (k : indent ≤ getD table (4 * i) 0) where
-      pub row-more : literalLines indent (drop i (tableLines text table count)) ≡ onto (literalLine indent (lineAt text table i)) (literalLines indent (drop (i + 1) (tableLines text table count)))
+      pub row-more : literalLines indent (drop i (tableLines text table count)) ≡ onto (rowBytes i) (literalLines indent (drop (i + 1) (tableLines text table count)))
       row-more = ap (literalLines indent) (rows-next text table count i h) ∙ lines-more indent (lineAt text table i) (drop (i + 1) ls) k
 
-      pub row-body : bodyFrom text table count indent i ≡ literalLine indent (lineAt text table i) ++ bodyFrom text table count indent (i + 1)
+      pub row-body : bodyFrom text table count indent i ≡ rowBytes i ++ bodyFrom text table count indent (i + 1)
       row-body = ap (λ (b : List ℕ × List Line). b .0) row-more
 
       pub row-rest : restFrom text table count indent i ≡ restFrom text table count indent (i + 1)
       row-rest = ap (λ (b : List ℕ × List Line). b .1) row-more
 
   -- what a row gives, by its entry
-  module _ (i : ℕ) (entry : Entry) (is : IsEntry table i entry) (h : i < count) (k : indent ≤ entry .indent) where
-    abbrev here : indent ≤ getD table (4 * i) 0
-    here = omega arith
+  module _ (ready : Ready text table count) (i : ℕ) (entry : Entry) (is : IsEntry table i entry) (h : i < count) (k : indent ≤ entry .indent) (spaces : ℕ)
+      (x : spaces ≡ extraSpaces (entry .end - entry .start) (entry .indent - indent)) where
+    pub entry-line : replicate spaces (ch " ") ++ part text (entry .start) (entry .end) ++ (ch "\n" ∷ []) ≡ rowBytes i
+    unfolding if_then_else_
+    entry-line = go (eqb (entry .end - entry .start) 0) refl
+      where
+        l : Line
+        l = lineAt text table i
 
-    pub entry-line : replicate (entry .indent - indent) (ch " ") ++ part text (entry .start) (entry .end) ++ (ch "\n" ∷ []) ≡ literalLine indent (lineAt text table i)
-    unfolding literalLine
-    entry-line = rw (is .indent′, is .start′, is .end′)
+        go : (b : Bool) → eqb (entry .end - entry .start) 0 ≡ b → replicate spaces (ch " ") ++ part text (entry .start) (entry .end) ++ (ch "\n" ∷ []) ≡ rowBytes i
+        go true q =
+            let z : spaces ≡ 0 = x ∙ rw q in
+            let n : part text (entry .start) (entry .end) ≡ [] = rw (eqb-true (entry .end - entry .start) 0 q) in
+            let m : l .text ≡ [] = rw (← is .start′, ← is .end′) n in
+            rw (z, n) (sym (bare indent l (drop (i + 1) ls) (subst Ended (rows-next text table count i h) (ended-drop i (ready .ended))) m))
+        go false q =
+            let z : spaces ≡ entry .indent - indent = x ∙ rw q in
+            let w = ready .placed i h in
+            let n : empty (l .text) ≡ false = rw (part-cons text (startAt table i) (endAt table i) (omega (arith, eqb-false (entry .end - entry .start) 0 q)) (w .inside)) (unfold empty in refl) in
+            rw (z, is .indent′, is .start′, is .end′) (sym (line-full indent l (drop (i + 1) ls) n))
 
-    pub entry-length : Placed text table count → length (literalLine indent (lineAt text table i)) ≡ entry .indent - indent + (entry .end - entry .start) + 1
-    entry-length p =
-        let w = p i h in
-        omega (arith, line-length indent (lineAt text table i), part-length text (getD table (4 * i + 1) 0) (getD table (4 * i + 2) 0) (w .ordered) (w .inside))
+    pub entry-length : length (rowBytes i) ≡ spaces + (entry .end - entry .start) + 1
+    entry-length =
+        let w = ready .placed i h in
+        sym (ap length entry-line)
+        ∙ simp (length-append, length-replicate) (omega (arith, part-length text (entry .start) (entry .end) (omega (arith, w .ordered)) (omega (arith, w .inside))))
 
-    pub entry-size : Placed text table count → length (bodyFrom text table count indent i) ≡ entry .indent - indent + (entry .end - entry .start) + 1 + length (bodyFrom text table count indent (i + 1))
-    entry-size p = omega (arith, entry-length p, ap length (row-body i h here), length-append (literalLine indent (lineAt text table i)) (bodyFrom text table count indent (i + 1)))
+    pub entry-size : length (bodyFrom text table count indent i) ≡ spaces + (entry .end - entry .start) + 1 + length (bodyFrom text table count indent (i + 1))
+    entry-size = omega (arith, entry-length, ap length (row-body i h (omega arith)), length-append (rowBytes i) (bodyFrom text table count indent (i + 1)))
 
 -- ---- the walk that counts
 
@@ -88,10 +104,10 @@ pub count-start : (table : List ℕ) (count indent first : ℕ) → Counted tabl
 count-start table count indent first text p = (omega arith, refl)
 
 module _ (table : List ℕ) (count indent first i len : ℕ) (before : Counted table count indent first i len) where
-  pub count-more : (entry : Entry) → IsEntry table i entry → i < count → indent ≤ entry .indent → Counted table count indent first (i + 1) (len + (entry .indent - indent + (entry .end - entry .start) + 1))
-  count-more entry is h k text p =
-      let b = before text p in
-      (omega (arith, b .0, entry-size text table count indent i entry is h k p), b .1 ∙ row-rest text table count indent i h (omega arith))
+  pub count-more : (entry : Entry) → IsEntry table i entry → i < count → indent ≤ entry .indent → (spaces : ℕ) → spaces ≡ extraSpaces (entry .end - entry .start) (entry .indent - indent) → Counted table count indent first (i + 1) (len + (spaces + (entry .end - entry .start) + 1))
+  count-more entry is h k spaces x text r =
+      let b = before text r in
+      (omega (arith, b .0, entry-size text table count indent r i entry is h k spaces x), b .1 ∙ row-rest text table count indent i h (omega arith))
 
   -- there are no more lines of it
   pub extent-of : first ≤ i → i ≤ count → len ≤ 131071 * i → ((text : List ℕ) → literalLines indent (drop i (tableLines text table count)) ≡ ([], drop i (tableLines text table count)))
@@ -155,14 +171,14 @@ module _ (out line : List ℕ) (at spaces to : ℕ) where
 abbrev pub left : List ℕ → List ℕ → ℕ → ℕ → List ℕ → ℕ → ℕ → ℕ → List ℕ
 left text table count indent out p to i = sets out p (take (to - p) (bodyFrom text table count indent i))
 
-pub write-more : (text table : List ℕ) (count indent i : ℕ) (entry : Entry) → IsEntry table i entry → i < count → indent ≤ entry .indent → Placed text table count → (out : List ℕ) {new : List ℕ} (p to : ℕ)
-    → new ≡ sets out p (take (to - p) (replicate (entry .indent - indent) (ch " ") ++ part text (entry .start) (entry .end) ++ (ch "\n" ∷ [])))
-    → left text table count indent new (p + (entry .indent - indent + (entry .end - entry .start) + 1)) to (i + 1) ≡ left text table count indent out p to i
-write-more text table count indent i entry is h k placed out p to e =
-    let l : length (literalLine indent (lineAt text table i)) ≡ entry .indent - indent + (entry .end - entry .start) + 1 = entry-length text table count indent i entry is h k placed in
-    let d : to - (p + (entry .indent - indent + (entry .end - entry .start) + 1)) ≡ to - p - (entry .indent - indent + (entry .end - entry .start) + 1) = omega arith in
-    rw (e, entry-line text table count indent i entry is h k, d, ← l)
-    (sets-cut (literalLine indent (lineAt text table i)) (bodyFrom text table count indent (i + 1)) out p (to - p)
+pub write-more : (text table : List ℕ) (count indent : ℕ) → Ready text table count → (i : ℕ) (entry : Entry) → IsEntry table i entry → i < count → indent ≤ entry .indent → (spaces : ℕ) → spaces ≡ extraSpaces (entry .end - entry .start) (entry .indent - indent) → (out : List ℕ) {new : List ℕ} (p to : ℕ)
+    → new ≡ sets out p (take (to - p) (replicate spaces (ch " ") ++ part text (entry .start) (entry .end) ++ (ch "\n" ∷ [])))
+    → left text table count indent new (p + (spaces + (entry .end - entry .start) + 1)) to (i + 1) ≡ left text table count indent out p to i
+write-more text table count indent ready i entry is h k spaces x out p to e =
+    let l : length (rowBytes text table count indent i) ≡ spaces + (entry .end - entry .start) + 1 = entry-length text table count indent ready i entry is h k spaces x in
+    let d : to - (p + (spaces + (entry .end - entry .start) + 1)) ≡ to - p - (spaces + (entry .end - entry .start) + 1) = omega arith in
+    rw (e, entry-line text table count indent ready i entry is h k spaces x, d, ← l)
+    (sets-cut (rowBytes text table count indent i) (bodyFrom text table count indent (i + 1)) out p (to - p)
     ∙ ap (λ (b : List ℕ). sets out p (take (to - p) b)) (sym (row-body text table count indent i h (omega arith))))
 
 pub write-none : (text table : List ℕ) (count indent i : ℕ) (out : List ℕ) (p to : ℕ) → literalLines indent (drop i (tableLines text table count)) ≡ ([], drop i (tableLines text table count)) → out ≡ left text table count indent out p to i

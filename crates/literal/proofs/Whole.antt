@@ -18,7 +18,8 @@ use Rattle.literal.specs.declared.Body.{Body}
 use Rattle.literal.specs.Literal.{leaf, literalLine, literalLines, literalUnder, dropNewlines, literal}
 use Rattle.literal.specs.Contract.{WroteBlock}
 use Rattle.literal.specs.Walk.{bodyFrom, restFrom, Extent, whole}
-use Rattle.literal.proofs.Laws.{line-length, row-body, leaf-short, wrote-string}
+use Rattle.literal.proofs.Blanks.{line-some}
+use Rattle.literal.proofs.Laws.{row-body, leaf-short, wrote-string}
 use Rattle.literal.proofs.Ends.{kept-front}
 
 -- ---- a key with no literal below it, or with one
@@ -54,12 +55,13 @@ module _ (text table : List ℕ) (count i indent : ℕ) (ready : Ready text tabl
   all = bodyFrom text table count indent i
 
   size : length all ≡ b .len
-  size = x .size text (ready .placed)
+  size = x .size text ready
 
   pub extent-some : 1 ≤ b .len
   extent-some =
-      let l = literalLine indent (lineAt text table i) in
-      omega (arith, size, ap length (row-body text table count indent i h (omega arith)), length-append l (bodyFrom text table count indent (i + 1)), line-length indent (lineAt text table i))
+      let l = lineAt text table i in
+      let ls = drop (i + 1) (tableLines text table count) in
+      omega (arith, size, ap length (row-body text table count indent i h (omega arith)), length-append (literalLine indent l ls) (bodyFrom text table count indent (i + 1)), line-some indent l ls)
 
   module _ (strip : Bool) (len : ℕ) (e : len ≡ (if strip then b .len - 1 else b .len)) where
     abbrev kept : List ℕ
@@ -80,6 +82,6 @@ module _ (text table : List ℕ) (count i indent : ℕ) (ready : Ready text tabl
         → WroteBlock (whole (length old) strip at (literalLines indent (drop i (tableLines text table count)))) (tableLines text table count) i old new at (b .next) (at + 6 + len)
     literal-wrote old at m o q =
         let d : at + 6 + len - (at + 6) ≡ len = omega arith in
-        rw (x .left text (ready .placed))
+        rw (x .left text ready)
         (wrote-string (tableLines text table count) i old at (b .next) (at + 6 + len) kept (omega (arith, kept-length)) m (x .on) (omega (arith, x .within, rows-length text table count))
         (q ∙ rw (o, d, kept-length, kept-is)))

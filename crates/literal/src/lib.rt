@@ -8,11 +8,11 @@ ghost use lib.Seq.{sets};
 ghost use Rattle.refusal.specs.Base.{if_then_else_, ch};
 ghost use Rattle.item.specs.Tree.{str};
 ghost use Rattle.lines.specs.Lines.{mostLines};
-ghost use Rattle.lines.specs.Table.{tableSize, Placed};
+ghost use Rattle.lines.specs.Table.{tableSize};
 ghost use Rattle.lines.specs.Ready.{Ready};
 ghost use Rattle.literal.specs.Literal as definition;
 ghost use Rattle.literal.specs.Contract.{ReadsLines, ReadsPart};
-ghost use Rattle.literal.specs.Walk.{bodyFrom, Ordered, Extent, whole};
+ghost use Rattle.literal.specs.Walk.{extraSpaces, bodyFrom, Ordered, Extent, whole};
 use item::copy;
 use item::put_header;
 use lines::entry_at;
@@ -30,7 +30,18 @@ pub struct Body {
     pub len: usize,
 }
 
-// The lines from `first` on that are indented by at least `indent`. They can give far more bytes than the text has.
+// The spaces before a text of `size` bytes that stands `deeper` than the literal's first line. A blank line has none, whatever
+// stands behind it.
+fn extra_spaces(size: usize, deeper: usize) -> usize
+    ensures { λ r. ⌜ (r ≡ extraSpaces size deeper) × (r ≤ deeper) ⌝ }
+{
+    if size == 0 {
+        return 0;
+    }
+    deeper
+}
+
+// The lines from `first` on that are indented by at least `indent`.
 fn extent(table: &[u16], count: usize, first: usize, indent: usize) -> Body
     requires { ⌜ (length (now table) ≡ tableSize) × (count ≤ mostLines) × (first ≤ count) × Ordered (now table) count ⌝ }
     ensures { λ r. ⌜ Extent (now (table .entry)) count first indent r ⌝ }
@@ -42,7 +53,8 @@ fn extent(table: &[u16], count: usize, first: usize, indent: usize) -> Body
         if entry.indent < indent {
             break;
         }
-        len += entry.indent - indent + (entry.end - entry.start) + 1;
+        let size = entry.end - entry.start;
+        len += extra_spaces(size, entry.indent - indent) + size + 1;
         i += 1;
     }
     Body { next: i, len }
@@ -84,7 +96,7 @@ fn put_lines(
     at: usize,
     to: usize,
 )
-    requires { ⌜ (length (now table) ≡ tableSize) × (count ≤ mostLines) × (first ≤ count) × Placed (now text) (now table) count
+    requires { ⌜ Ready (now text) (now table) count × (first ≤ count)
         × (to ≤ length (now out)) × (length (now out) ≤ 2 ^ 20) × (to ≤ at + length (bodyFrom (now text) (now table) count indent first))
         × (at + length (bodyFrom (now text) (now table) count indent first) ≤ to + 1) ⌝ }
     ensures { λ _. ⌜ now (out .exit) ≡ sets (now (out .entry)) at
@@ -99,8 +111,10 @@ fn put_lines(
         }
         let start = entry.start;
         let end = entry.end;
-        put_line(&text[start..end], entry.indent - indent, out, p, to);
-        p += entry.indent - indent + (end - start) + 1;
+        let size = end - start;
+        let spaces = extra_spaces(size, entry.indent - indent);
+        put_line(&text[start..end], spaces, out, p, to);
+        p += spaces + size + 1;
         i += 1;
     }
 }

@@ -1,5 +1,5 @@
--- The starred try-out texts of document 01 in one table, with what P4 of document 02 makes of two of them, proved together about the
--- definitions of both jobs. Assumes nothing.
+-- The starred try-out texts of document 01 in one table, with what P4 of document 02 makes of two of them and the one of P3, proved together
+-- about the definitions of both jobs. Assumes nothing.
 use mathlib.Core.Path.{_≡_, refl}
 use Prim.Native.Nat.{ℕ}
 use Prim.Native.String.{String}
@@ -53,6 +53,7 @@ starred =
     ∷ as-tree "a: |\n x" (good (dict (pair (bytes "a") (string "x\n") done)))
     ∷ as-tree "a: |-\n x" (good (dict (pair (bytes "a") (string "x") done)))
     ∷ as-tree "\"a\\\"b\": 1" (refused 8 1 0)
+    ∷ as-tree "a: |\n x\n\n   y" (good (dict (pair (bytes "a") (string "x\n\n  y\n") done)))
     ∷ []
 
 pub starred-hold : map defined starred ≡ starred

@@ -21,7 +21,7 @@ use Rattle.lines.specs.declared.Place.the-variants.{Fresh, Plain, Single, Doubl
 use Rattle.lines.specs.declared.Literal.{Literal}
 use Rattle.lines.specs.declared.Literal.the-variants.{Closed, Under}
 use Rattle.lines.specs.Lines.{Line, beginsNewline, prepend, splitLines, indentOf, tabbed, startsComment, placeAfter, uncommented, stripComment, significant, isMarker, Event, entry, bad, eventsOf, literalAfter, blanksBefore, bodyOf, scan, collect, significantLines}
-use Rattle.literal.specs.Literal.{literalLine, literalLines, literalUnder, allNewlines, dropNewlines}
+use Rattle.literal.specs.Literal.{isBlank, beforeDeeper, literalLine, literalLines, literalUnder, allNewlines, dropNewlines}
 use Rattle.utf8.specs.Utf8.{Utf8}
 use Rattle.tree.proofs.Strings.{either, joined, put, cut}
 
@@ -283,10 +283,14 @@ spaces-utf8 : (k : ℕ) → Utf8 (replicate k (ch " "))
 spaces-utf8 zero = utf8-nil
 spaces-utf8 (suc k) = put (ch " ") _ (omega arith) (spaces-utf8 k)
 
-line-utf8 : (indent : ℕ) (l : Line) → Utf8 (l .text) → Utf8 (literalLine indent l)
+line-utf8 : (indent : ℕ) (l : Line) (ls : List Line) → Utf8 (l .text) → Utf8 (literalLine indent l ls)
 unfolding literalLine
-line-utf8 indent l u = joined (replicate (l .indent - indent) (ch " ") ++ l .text) _
-    (joined (replicate (l .indent - indent) (ch " ")) (l .text) (spaces-utf8 (l .indent - indent)) u) (put (ch "\n") [] (omega arith) utf8-nil)
+line-utf8 indent l ls u = either Utf8 (isBlank l && beforeDeeper indent ls) _ _ (λ _. newline)
+    (λ _. joined (replicate (l .indent - indent) (ch " ") ++ l .text) _
+    (joined (replicate (l .indent - indent) (ch " ")) (l .text) (spaces-utf8 (l .indent - indent)) u) newline)
+  where
+    newline : Utf8 (ch "\n" ∷ [])
+    newline = put (ch "\n") [] (omega arith) utf8-nil
 
 -- a literal's text and the lines that are left
 abbrev pub Body : List ℕ × List Line → Type 0
@@ -296,7 +300,7 @@ lines-body : (indent : ℕ) (ls : List Line) → Lines ls → Body (literalLines
 unfolding literalLines
 lines-body indent [] h = (utf8-nil, tt)
 lines-body indent (l ∷ ls) h = either Body (leb indent (l .indent)) _ _
-    (λ _. let p = lines-body indent ls (h .1) in (joined (literalLine indent l) _ (line-utf8 indent l (h .0)) (p .0), p .1))
+    (λ _. let p = lines-body indent ls (h .1) in (joined (literalLine indent l ls) _ (line-utf8 indent l ls (h .0)) (p .0), p .1))
     (λ _. (utf8-nil, h))
 
 pub under-body : (under : ℕ) (ls : List Line) → Lines ls → Body (literalUnder under ls)

@@ -171,7 +171,6 @@ lines-kept = record {
         (
           omega arith,
           (refl, refl),
-          refl,
           (
             omega arith,
             (refl, refl),

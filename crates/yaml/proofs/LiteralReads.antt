@@ -4,21 +4,22 @@ use Prim.Native.Nat.{ℕ, suc, _+_, _-_, _≤_, _<_}
 use native.Mathlib.Omega.{arith}
 use mathlib.Core.List.{List, [], _∷_, _++_, append-assoc, append-nil}
 use mathlib.Core.Bool.{Bool, true, false, _&&_, not}
-use lib.Dec.{T, eqb}
+use lib.Dec.{T, eqb, ltb}
 use lib.ListN.{length, drop}
 use borrow.Author.Tests.{eqb-true, le-leb, lt-leb, lt-ltb, le-ltb}
 use Rattle.refusal.specs.Base.{good, _>>=_, if_then_else_, ch, empty}
 use Rattle.item.specs.Tree as Tree
 use Rattle.scalar.specs.Read.{cost, charge}
 use Rattle.lines.specs.Lines.{Line, line, indentOf}
-use Rattle.literal.specs.Literal.{leaf, literalLine, literalLines, literalUnder, allNewlines, dropNewlines, literal}
+use Rattle.literal.specs.Literal.{leaf, beforeDeeper, literalLine, literalLines, literalUnder, allNewlines, dropNewlines, literal}
+use Rattle.literal.proofs.Blanks.{blank-bare, line-full}
 use Rattle.yaml.specs.Characters.{spaces, nbChar, nbChars}
 use Rattle.yaml.specs.Rows.{Break, lf, crlf, eof, Row, body, Comments, c-end, c-more}
 use Rattle.yaml.specs.Block.{Chomp, strip, clip, chomped, Blanks, l-none, l-empty, Lines, l-text, l-last, l-next, shown, Trail, t-none, t-blank, t-comment, l-lines, l-nothing}
 use Rattle.yaml.specs.Block as B
 use Rattle.yaml.specs.Kept.{inner, keptLast, keptLiteral}
-use Rattle.yaml.proofs.Parts.{nextBody, linesOf, below, strips, ReadsLiteral}
-use Rattle.yaml.proofs.Tests.{and-two, differs}
+use Rattle.yaml.proofs.Parts.{edge, nextBody, linesOf, below, strips, ReadsLiteral}
+use Rattle.yaml.proofs.Tests.{and-two, is-false, differs}
 
 -- ---- comments have no entries
 
@@ -46,45 +47,79 @@ indent-back (b ∷ t) = go (eqb b 32) refl (indent-back t)
     go true e ih = rw (eqb-true b 32 e) (ap (λ (s : List ℕ). 32 ∷ s) ih)
     go false e ih = refl
 
-row-text : (m k : ℕ) (t : List ℕ) → literalLine m (line (m + indentOf t) (inner t) k) ≡ t ++ (ch "\n" ∷ [])
-unfolding literalLine
-row-text m k t =
-    let e : (m + indentOf t) - m ≡ indentOf t = omega arith in
-    rw (e, indent-back t)
+-- and so of its edge
+edge-back : (t : List ℕ) → spaces (edge t) ++ drop (edge t) t ≡ t
+unfolding edge if_then_else_
+edge-back t = go (empty (inner t))
+  where
+    go : (x : Bool) → spaces (if x then 0 else indentOf t) ++ drop (if x then 0 else indentOf t) t ≡ t
+    go true = refl
+    go false = indent-back t
 
-blank-text : (m k : ℕ) → literalLine m (line m [] k) ≡ ch "\n" ∷ []
-unfolding literalLine
-blank-text m k = let e : m - m ≡ 0 = omega arith in rw e
+edge-some : (t : List ℕ) → T (not (empty t)) → empty (drop (edge t) t) ≡ false
+unfolding edge if_then_else_
+edge-some t h = go (empty (inner t)) refl
+  where
+    go : (x : Bool) → empty (inner t) ≡ x → empty (drop (if x then 0 else indentOf t) t) ≡ false
+    go true e = is-false (empty t) h
+    go false e = e
+
+edge-none : (t : List ℕ) → indentOf t ≡ 0 → edge t ≡ 0
+unfolding edge if_then_else_
+edge-none t h = go (empty (inner t))
+  where
+    go : (x : Bool) → (if x then 0 else indentOf t) ≡ 0
+    go true = refl
+    go false = h
+
+pub edge-all : (t : List ℕ) → empty (inner t) ≡ false → edge t ≡ indentOf t
+unfolding edge if_then_else_
+edge-all t e = rw e
+
+row-text : (m k : ℕ) (t : List ℕ) → T (not (empty t)) → (ls : List Line) → literalLine m (line (m + edge t) (drop (edge t) t) k) ls ≡ t ++ (ch "\n" ∷ [])
+row-text m k t h ls =
+    let e : (m + edge t) - m ≡ edge t = omega arith in
+    line-full m (line (m + edge t) (drop (edge t) t) k) ls (edge-some t h) ∙ rw (e, edge-back t)
 
 -- rows at or beyond m are taken
-take-row : (m : ℕ) (l : Line) (ls : List Line) (u v : List ℕ) (rest : List Line) → m ≤ l .indent → literalLine m l ≡ u → literalLines m ls ≡ (v, rest) → literalLines m (l ∷ ls) ≡ (u ++ v, rest)
+take-row : (m : ℕ) (l : Line) (ls : List Line) (u v : List ℕ) (rest : List Line) → m ≤ l .indent → literalLine m l ls ≡ u → literalLines m ls ≡ (v, rest) → literalLines m (l ∷ ls) ≡ (u ++ v, rest)
 unfolding literalLines if_then_else_
 take-row m l ls u v rest h e f = rw (le-leb m (l .indent) h, e, f)
 
 -- ---- rows of a literal
 
-pub next-body : {m : ℕ} {bs : List Row} {v : List ℕ} → Blanks m bs v → (t : List ℕ) (b : Break) (ys : List Row) → nextBody ((bs ++ (body m t b ∷ [])) ++ ys) ≡ m
+pub next-body : {m : ℕ} {bs : List Row} {v : List ℕ} → Blanks m bs v → (t : List ℕ) (b : Break) (ys : List Row) → nextBody ((bs ++ (body m t b ∷ [])) ++ ys) ≡ m + edge t
 unfolding nextBody
 next-body l-none t b ys = refl
 next-body (l-empty h d) t b ys = next-body d t b ys
 
 module _ (m : ℕ) (rest : List Line) where
+  -- blank rows stand before a row that is deeper than the first by its edge
+  deeper : {bs : List Row} {v : List ℕ} → Blanks m bs v → (t : List ℕ) → T (not (empty t)) → (b : Break) (ys : List Row) (k : ℕ)
+      → beforeDeeper m (linesOf k ((bs ++ (body m t b ∷ [])) ++ ys) ++ rest) ≡ ltb m (m + edge t)
+  unfolding linesOf beforeDeeper if_then_else_ empty
+  deeper l-none t h b ys k = rw (edge-some t h)
+  deeper (l-empty g d) t h b ys k = deeper d t h b ys (suc k)
+
   -- what the rows behind give, whatever their numbers
   abbrev Gives : List Row → List ℕ → Type 0
   Gives ys v = (k : ℕ) → literalLines m (linesOf k ys ++ rest) ≡ (v, rest)
 
-  blanks-read : {bs : List Row} {v : List ℕ} → Blanks m bs v → (t u : List ℕ) (b : Break) (ys : List Row) → Gives ys u → Gives ((bs ++ (body m t b ∷ [])) ++ ys) (v ++ (t ++ (ch "\n" ∷ u)))
+  blanks-read : {bs : List Row} {v : List ℕ} → Blanks m bs v → (t u : List ℕ) → T (not (empty t)) → (b : Break) (ys : List Row) → Gives ys u → Gives ((bs ++ (body m t b ∷ [])) ++ ys) (v ++ (t ++ (ch "\n" ∷ u)))
   unfolding linesOf
-  blanks-read l-none t u b ys g k =
-      take-row m (line (m + indentOf t) (inner t) k) (linesOf (suc k) ys ++ rest) (t ++ (10 ∷ [])) u rest (omega arith) (row-text m k t) (g (suc k))
+  blanks-read l-none t u h b ys g k =
+      let ls = linesOf (suc k) ys ++ rest in
+      take-row m (line (m + edge t) (drop (edge t) t) k) ls (t ++ (10 ∷ [])) u rest (omega arith) (row-text m k t h ls) (g (suc k))
       ∙ ap (λ (s : List ℕ). (s, rest)) (append-assoc t (10 ∷ []) u)
-  blanks-read (l-empty {k = i} {b = c} {rs = bs} {v = v} h d) t u b ys g k =
+  blanks-read (l-empty {k = i} {b = c} {rs = bs} {v = v} n d) t u h b ys g k =
+      let ls = linesOf (suc k) ((bs ++ (body m t b ∷ [])) ++ ys) ++ rest in
+      let l = line (m + edge t) [] k in
       rw (next-body d t b ys)
-      (take-row m (line m [] k) (linesOf (suc k) ((bs ++ (body m t b ∷ [])) ++ ys) ++ rest) (10 ∷ []) (v ++ (t ++ (10 ∷ u))) rest (omega arith) (blank-text m k) (blanks-read d t u b ys g (suc k)))
+      (take-row m l ls (10 ∷ []) (v ++ (t ++ (10 ∷ u))) rest (omega arith) (blank-bare m l ls refl (deeper d t h b ys (suc k))) (blanks-read d t u h b ys g (suc k)))
 
   line-read : {xs : List Row} {v : List ℕ} {b : Break} → B.Line m xs v b → (u : List ℕ) (ys : List Row) → Gives ys u → Gives (xs ++ ys) (v ++ (ch "\n" ∷ u))
   line-read (l-text {v = v} {b = b} {bs = bs} t d h g e f) u ys w =
-      rw (e, f, append-assoc v t (10 ∷ u)) (blanks-read d t u b ys w)
+      rw (e, f, append-assoc v t (10 ∷ u)) (blanks-read d t u g b ys w)
 
   lines-read : {xs : List Row} {v : List ℕ} {b : Break} → Lines m xs v b → (ys : List Row) → Gives ys [] → Gives (xs ++ ys) (v ++ (ch "\n" ∷ []))
   lines-read (l-last d) ys g = line-read d [] ys g
@@ -118,12 +153,12 @@ opens-blanks : {m : ℕ} {bs : List Row} {v : List ℕ} → Blanks m bs v → (t
     → Opens m (linesOf k ((bs ++ (body m t b ∷ [])) ++ ys) ++ rest)
 unfolding linesOf
 opens-blanks {m = m} l-none t e b ys k rest =
-    record { first = line (m + indentOf t) (inner t) k; more = linesOf (suc k) ys ++ rest; is = refl; at = omega arith }
+    record { first = line (m + edge t) (drop (edge t) t) k; more = linesOf (suc k) ys ++ rest; is = refl; at = omega (arith, edge-none t e) }
 opens-blanks {m = m} (l-empty {rs = bs} h d) t e b ys k rest = record {
   first = line (nextBody ((bs ++ (body m t b ∷ [])) ++ ys)) [] k;
   more = linesOf (suc k) ((bs ++ (body m t b ∷ [])) ++ ys) ++ rest;
   is = refl;
-  at = next-body d t b ys;
+  at = omega (arith, next-body d t b ys, edge-none t e);
 }
 
 opens-lines : {m : ℕ} {xs : List Row} {v : List ℕ} {b : Break} → Lines m xs v b → (ys : List Row) (k : ℕ) (rest : List Line) → T (shown xs) → Opens m (linesOf k (xs ++ ys) ++ rest)

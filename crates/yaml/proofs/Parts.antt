@@ -4,8 +4,8 @@ use Prim.Native.Nat.{ℕ, suc, _+_, _≤_, _<_}
 use mathlib.Core.List.{List, [], _∷_, _++_}
 use mathlib.Core.Bool.{Bool, true, false}
 use mathlib.Core.Option.{Option, some}
-use lib.ListN.{length}
-use Rattle.refusal.specs.Base.{good}
+use lib.ListN.{length, drop}
+use Rattle.refusal.specs.Base.{good, if_then_else_, empty}
 use Rattle.item.specs.Tree.{Yaml, levels}
 use Rattle.item.specs.Tree as Tree
 use Rattle.item.proofs.Size.{size}
@@ -18,12 +18,16 @@ use Rattle.yaml.specs.Rows.{Row, node, note, body, blank, raw}
 use Rattle.yaml.specs.Block.{Chomp, strip, clip, Literal, Block, Stream}
 use Rattle.yaml.specs.Kept.{Kept, inner, keptLiteral, keptBlock}
 
+-- how many of the spaces that lead a literal row are indentation: all of them, but none of a row of spaces alone, which is not kept
+unfoldable pub edge : List ℕ → ℕ
+edge t = if empty (inner t) then 0 else indentOf t
+
 -- the indentation of the first literal row: that of the blank ones before it
 unfoldable pub nextBody : List Row → ℕ
 nextBody [] = 0
 nextBody (node n t w b ∷ rs) = 0
 nextBody (note s b ∷ rs) = 0
-nextBody (body m t b ∷ rs) = m
+nextBody (body m t b ∷ rs) = m + edge t
 nextBody (blank k b ∷ rs) = nextBody rs
 
 -- the entries of rows that are numbered from n on
@@ -31,7 +35,7 @@ unfoldable pub linesOf : ℕ → List Row → List Line
 linesOf n [] = []
 linesOf n (node i t w b ∷ rs) = line i t n ∷ linesOf (suc n) rs
 linesOf n (note s b ∷ rs) = linesOf (suc n) rs
-linesOf n (body m t b ∷ rs) = line (m + indentOf t) (inner t) n ∷ linesOf (suc n) rs
+linesOf n (body m t b ∷ rs) = line (m + edge t) (drop (edge t) t) n ∷ linesOf (suc n) rs
 linesOf n (blank k b ∷ rs) = line (nextBody rs) [] n ∷ linesOf (suc n) rs
 
 unfoldable pub raws : List Row → List (List ℕ)

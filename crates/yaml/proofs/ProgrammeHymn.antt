@@ -19,7 +19,7 @@ use Rattle.yaml.proofs.Plains.{is-plain, All-open}
 
 hymn-text : List ℕ
 hymn-text = (bytes
-    "# The Old Hundredth on Sundays; the panel shows the words while the drum plays.\nschema: passportsim/scenario@1\nname: Old Hundredth\ndescription: |-\n  Hymn for Sunday morning, two verses.\n  Played slowly, the last line slower.\nimage: drum two\ntags:\n  - hymn\n  - sunday\nsteps:\n  - show: |\n      All people that on earth do dwell,\n      Sing to the Lord with cheerful voice;\n\n      Him serve with fear, his praise forth tell,\n      Come ye before him, and rejoice.\n    name: words\n  - play: # a line of the tune each; # inside quotes stays\n      - \"G G F# E D G A B\"\n      - \"B B B A G C B A\"\n      - \"G A B A G E F# G\"\n      - \"D B G A C B A G\"\n    id: tune\n    timeout: 2m\n")
+    "# The Old Hundredth on Sundays; the panel shows the words while the drum plays.\nschema: passportsim/scenario@1\nname: Old Hundredth\ndescription: |-\n  Hymn for Sunday morning, two verses.\n  Played slowly, the last line slower.\nimage: drum two\ntags:\n  - hymn\n  - sunday\nsteps:\n  - show: |\n      All people that on earth do dwell,\n      Sing to the Lord with cheerful voice;\n\n        Him serve with fear, his praise forth tell,\n        Come ye before him, and rejoice.\n    name: words\n  - play: # a line of the tune each; # inside quotes stays\n      - \"G G F# E D G A B\"\n      - \"B B B A G C B A\"\n      - \"G A B A G E F# G\"\n      - \"D B G A C B A G\"\n    id: tune\n    timeout: 2m\n")
 
 hymn-rows : List Row
 hymn-rows = (note (bytes "# The Old Hundredth on Sundays; the panel shows the words while the drum plays.") lf) ∷ (node 0 (bytes
@@ -27,8 +27,8 @@ hymn-rows = (note (bytes "# The Old Hundredth on Sundays; the panel shows the wo
     (bytes "Hymn for Sunday morning, two verses.") lf) ∷ (body 2 (bytes "Played slowly, the last line slower.") lf) ∷ (node 0 (bytes
     "image: drum two") [] lf) ∷ (node 0 (bytes "tags:") [] lf) ∷ (node 2 (bytes "- hymn") [] lf) ∷ (node 2 (bytes "- sunday") [] lf) ∷ (node 0 (bytes
     "steps:") [] lf) ∷ (node 2 (bytes "- show: |") [] lf) ∷ (body 6 (bytes "All people that on earth do dwell,") lf) ∷ (body 6 (bytes
-    "Sing to the Lord with cheerful voice;") lf) ∷ (blank 0 lf) ∷ (body 6 (bytes "Him serve with fear, his praise forth tell,") lf) ∷ (body 6 (bytes
-    "Come ye before him, and rejoice.") lf) ∷ (node 4 (bytes "name: words") [] lf) ∷ (node 2 (bytes "- play:") (bytes
+    "Sing to the Lord with cheerful voice;") lf) ∷ (blank 0 lf) ∷ (body 6 (bytes "  Him serve with fear, his praise forth tell,") lf) ∷ (body 6 (bytes
+    "  Come ye before him, and rejoice.") lf) ∷ (node 4 (bytes "name: words") [] lf) ∷ (node 2 (bytes "- play:") (bytes
     " # a line of the tune each; # inside quotes stays") lf) ∷ (node 6 (bytes "- \"G G F# E D G A B\"") [] lf) ∷ (node 6 (bytes
     "- \"B B B A G C B A\"") [] lf) ∷ (node 6 (bytes "- \"G A B A G E F# G\"") [] lf) ∷ (node 6 (bytes "- \"D B G A C B A G\"") [] lf) ∷ (node 4
     (bytes "id: tune") [] lf) ∷ (node 4 (bytes "timeout: 2m") [] lf) ∷ []
@@ -42,7 +42,7 @@ hymn-means = some (map (pair (str (bytes "schema")) (str (bytes "passportsim/sce
     (pair (str (bytes "description")) (str (bytes "Hymn for Sunday morning, two verses.\nPlayed slowly, the last line slower.")) (pair (str (bytes
     "image")) (str (bytes "drum two")) (pair (str (bytes "tags")) (seq ((str (bytes "hymn")) ▸ ((str (bytes "sunday")) ▸ end))) (pair (str (bytes
     "steps")) (seq ((map (pair (str (bytes "show")) (str (bytes
-    "All people that on earth do dwell,\nSing to the Lord with cheerful voice;\n\nHim serve with fear, his praise forth tell,\nCome ye before him, and rejoice.\n"))
+    "All people that on earth do dwell,\nSing to the Lord with cheerful voice;\n\n  Him serve with fear, his praise forth tell,\n  Come ye before him, and rejoice.\n"))
     (pair (str (bytes "name")) (str (bytes "words")) done))) ▸ ((map (pair (str (bytes "play")) (seq ((str (bytes "G G F# E D G A B")) ▸ ((str (bytes
     "B B B A G C B A")) ▸ ((str (bytes "G A B A G E F# G")) ▸ ((str (bytes "D B G A C B A G")) ▸ end))))) (pair (str (bytes "id")) (str (bytes
     "tune")) (pair (str (bytes "timeout")) (str (bytes "2m")) done)))) ▸ end))) done)))))))
@@ -68,10 +68,10 @@ hymn-is = (d-one {cs = (hymn-from 0 1)} {xs = (hymn-from 1 24)} {m = 0} (c-more 
     (l-lines {xs = (hymn-from 12 5)} {ys = []} {m = 6} (omega arith) (l-next {xs = (hymn-from 12 1)} {ys = (hymn-from 13 4)} (l-text {bs = []} (bytes
     "All people that on earth do dwell,") l-none tt tt refl refl) (l-next {xs = (hymn-from 13 1)} {ys = (hymn-from 14 3)} (l-text {bs = []} (bytes
     "Sing to the Lord with cheerful voice;") l-none tt tt refl refl) (l-next {xs = (hymn-from 14 2)} {ys = (hymn-from 16 1)} (l-text {bs = (hymn-from
-    14 1)} (bytes "Him serve with fear, his praise forth tell,") (l-empty {k = 0} (omega arith) l-none) tt tt refl refl) (l-last (l-text {bs = []}
-    (bytes "Come ye before him, and rejoice.") l-none tt tt refl refl)) refl refl) refl refl) refl refl) tt t-none refl refl) refl) (B.m-last (e-flow
-    [] (key [] (f-plain (is-plain flow-out (bytes "name") tt) (to-str tt)) tt refl tt) tt (f-plain (is-plain flow-out (bytes "words") tt) (to-str tt))
-    tt c-end refl)) refl) refl) (i-last (i-map {t = (bytes "play:")} 0 refl (B.m-more {xs = ((node 4 (bytes "play:") (bytes
+    14 1)} (bytes "  Him serve with fear, his praise forth tell,") (l-empty {k = 0} (omega arith) l-none) tt tt refl refl) (l-last (l-text {bs = []}
+    (bytes "  Come ye before him, and rejoice.") l-none tt tt refl refl)) refl refl) refl refl) refl refl) tt t-none refl refl) refl) (B.m-last
+    (e-flow [] (key [] (f-plain (is-plain flow-out (bytes "name") tt) (to-str tt)) tt refl tt) tt (f-plain (is-plain flow-out (bytes "words") tt)
+    (to-str tt)) tt c-end refl)) refl) refl) (i-last (i-map {t = (bytes "play:")} 0 refl (B.m-more {xs = ((node 4 (bytes "play:") (bytes
     " # a line of the tune each; # inside quotes stays") lf) ∷ hymn-from 19 4)} {ys = (hymn-from 23 2)} (e-block {n = 4} {m = 6} {cs = []} {xs =
     (hymn-from 19 4)} (key [] (f-plain (is-plain flow-out (bytes "play") tt) (to-str tt)) tt refl tt) tt c-end (omega arith) (b-seq (i-more {xs =
     (hymn-from 19 1)} {ys = (hymn-from 20 3)} (i-flow [] tt (f-quoted (q-double {t = (bytes "G G F# E D G A B")} {v = (bytes "G G F# E D G A B")}
@@ -178,7 +178,7 @@ hymn-kept = record {
                             (
                               omega arith,
                               (refl, refl),
-                              (omega arith, (refl, refl), refl, (omega arith, (refl, refl), (refl, (refl, (refl, (refl, (refl, (refl, (refl, (refl, tt)))))))))),
+                              (omega arith, (refl, refl), (omega arith, (refl, refl), (refl, (refl, (refl, (refl, (refl, (refl, (refl, (refl, tt)))))))))),
                             ),
                           ),
                         ),
@@ -200,7 +200,7 @@ hymn-tree : treeOf hymn-means ≡ some (Tree.dict (Tree.pair (bytes "schema") (T
     "Hymn for Sunday morning, two verses.\nPlayed slowly, the last line slower.")) (Tree.pair (bytes "image") (Tree.str (bytes "drum two")) (Tree.pair
     (bytes "tags") (Tree.seq (Tree._▸_ (Tree.str (bytes "hymn")) (Tree._▸_ (Tree.str (bytes "sunday")) Tree.end))) (Tree.pair (bytes "steps")
     (Tree.seq (Tree._▸_ (Tree.dict (Tree.pair (bytes "show") (Tree.str (bytes
-    "All people that on earth do dwell,\nSing to the Lord with cheerful voice;\n\nHim serve with fear, his praise forth tell,\nCome ye before him, and rejoice.\n"))
+    "All people that on earth do dwell,\nSing to the Lord with cheerful voice;\n\n  Him serve with fear, his praise forth tell,\n  Come ye before him, and rejoice.\n"))
     (Tree.pair (bytes "name") (Tree.str (bytes "words")) Tree.done))) (Tree._▸_ (Tree.dict (Tree.pair (bytes "play") (Tree.seq (Tree._▸_ (Tree.str
     (bytes "G G F# E D G A B")) (Tree._▸_ (Tree.str (bytes "B B B A G C B A")) (Tree._▸_ (Tree.str (bytes "G A B A G E F# G")) (Tree._▸_ (Tree.str
     (bytes "D B G A C B A G")) Tree.end))))) (Tree.pair (bytes "id") (Tree.str (bytes "tune")) (Tree.pair (bytes "timeout") (Tree.str (bytes "2m"))

@@ -1,6 +1,6 @@
 -- The entries of rows that follow one another, and the first entry of a block node. Assumes nothing.
 use mathlib.Core.Path.{_≡_, refl, sym, ap, _∙_, subst}
-use Prim.Native.Nat.{ℕ, suc}
+use Prim.Native.Nat.{ℕ, suc, _+_}
 use mathlib.Core.List.{List, [], _∷_, _++_, append-assoc, append-nil}
 use Rattle.refusal.specs.Base.{ch}
 use Rattle.item.specs.Tree.{many, keyed}
@@ -12,7 +12,7 @@ use Rattle.yaml.specs.Block.{Chomp, mark, Blanks, l-none, l-empty, Lines
 use Rattle.yaml.specs.Block.{l-nothing, Block, b-flow, b-seq, b-map, Items, i-last, i-more, Item, i-flow, i-null, i-block, i-map, Pairs, Entry, e-flow}
 use Rattle.yaml.specs.Block.{e-null, e-block, e-literal}
 use Rattle.yaml.specs.Block as B
-use Rattle.yaml.proofs.Parts.{nextBody, linesOf}
+use Rattle.yaml.proofs.Parts.{edge, nextBody, linesOf}
 use Rattle.yaml.proofs.LiteralReads.{next-body}
 
 -- ---- rows that do not end in blank ones: what follows does not change their entries
@@ -66,7 +66,7 @@ joins-blank m i c {xs = xs} h j = record {
 -- blank rows before one of the literal
 joins-blanks : {m : ℕ} {bs : List Row} {v : List ℕ} → Blanks m bs v → (t : List ℕ) (b : Break) → Joins (bs ++ (body m t b ∷ []))
 joins-blanks {m = m} l-none t b = joins-body m t b
-joins-blanks {m = m} (l-empty {k = i} {b = c} {rs = bs} h d) t b = joins-blank m i c (λ ys. next-body d t b ys) (joins-blanks d t b)
+joins-blanks {m = m} (l-empty {k = i} {b = c} {rs = bs} h d) t b = joins-blank (m + edge t) i c (λ ys. next-body d t b ys) (joins-blanks d t b)
 
 joins-line : {m : ℕ} {xs : List Row} {v : List ℕ} {b : Break} → B.Line m xs v b → Joins xs
 joins-line (l-text {b = b} t d h g e f) = subst Joins (sym e) (joins-blanks d t b)

@@ -28,9 +28,9 @@ use Rattle.yaml.specs.Block.{Chomp, mark, Blanks, l-none, l-empty, Lines
 use Rattle.yaml.specs.Block.{l-nothing, Key, key, Block, b-flow, b-seq, b-map, Items, i-last, i-more, Item, i-flow, i-null, i-block, i-map, Pairs, Entry}
 use Rattle.yaml.specs.Block.{e-flow, e-null, e-block, e-literal, Document, d-none, d-one}
 use Rattle.yaml.specs.Block as B
-use Rattle.yaml.specs.Kept.{keptFlow, keptKey, keptBlock, keptSeq, keptItem, keptMap, keptEntry, keptDocument, starts, closed, under, gap, opened, cut, trimmed, inner, keptRows}
-use Rattle.yaml.proofs.Parts.{nextBody, linesOf, raws, asEvents, Scans}
-use Rattle.yaml.proofs.LiteralReads.{indent-back}
+use Rattle.yaml.specs.Kept.{keptFlow, keptKey, keptBlock, keptSeq, keptItem, keptMap, keptEntry, keptDocument, closed, under, gap, opened, cut, trimmed, inner, keptRows}
+use Rattle.yaml.proofs.Parts.{edge, nextBody, linesOf, raws, asEvents, Scans}
+use Rattle.yaml.proofs.LiteralReads.{indent-back, edge-all}
 
 -- ---- texts that begin with no white space
 
@@ -462,11 +462,6 @@ module _ (m : ℕ) (t : List ℕ) (h : T (not (empty t))) (g : trimmed t) where
     unfolding literalAfter
     body-after = rw (body-significant, indent-spaces t m)
 
-no-start : (t : List ℕ) → starts (ch " ") t ≡ false → indentOf t ≡ 0
-unfolding starts indentOf if_then_else_
-no-start [] e = refl
-no-start (b ∷ t) e = rw e
-
 -- one more blank line waits
 blanks-more : (w k i : ℕ) → blanksBefore (suc w) (suc k) i ≡ blanksBefore w k i ++ (entry (line i [] k) ∷ [])
 unfolding blanksBefore
@@ -550,14 +545,15 @@ body-found : {a : After} {m : ℕ} {t : List ℕ} {b : Break} {rs : List Row} �
 unfolding keptRows scan raws raw linesOf asEvents if_then_else_ blanksBefore nextBody
 body-found {a = a} {m = m} {t = t} {b = b} {rs = rs} na h f = record {
   at-closed = λ k c.
-      rw (body-entry m t h (c .0) (c .1) (c .2) k, body-after m t h (c .0) (c .1))
+      rw (edge-is (c .0), body-entry m t h (c .0) (c .1) (c .2) k, body-after m t h (c .0) (c .1))
       (ap (λ (es : List Event). entry (line (m + indentOf t) (inner t) k) ∷ es) (found-opened (m + indentOf t) (suc k) (inner t) f (c .3)));
-  at-under = λ d k c. inside d 0 k (c .0) (c .1) (c .2);
-  at-gap = λ g d v k c.
-      let e : m + indentOf t ≡ m = omega (arith, no-start t (c .2)) in
-      rw (waits a na g v k m) (inside d v k (c .0) (c .1) (c .3) ∙ ap (λ (j : ℕ). blanksBefore v k j ++ lines k) e);
+  at-under = λ d k c. rw (edge-is (c .1)) (inside d 0 k (c .0) (c .1) (c .2));
+  at-gap = λ g d v k c. rw (edge-is (c .1), waits a na g v k (m + indentOf t)) (inside d v k (c .0) (c .1) (c .2));
 }
   where
+    edge-is : trimmed t → edge t ≡ indentOf t
+    edge-is g = edge-all t (inner-empty m t h g)
+
     lines : ℕ → List Event
     lines k = entry (line (m + indentOf t) (inner t) k) ∷ asEvents (linesOf (suc k) rs)
 

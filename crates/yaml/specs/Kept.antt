@@ -1,4 +1,4 @@
--- Where document 01, with P4 of document 02, parts from YAML 1.2.2 on texts that the grammar has: conditions on a derivation under which
+-- Where document 01, with P3 and P4 of document 02, parts from YAML 1.2.2 on texts that the grammar has: conditions on a derivation under which
 -- they agree. Each names the smallest text that it rules out. Uses Base of `refusal`; White of `utf8`; Tree of `item`; Lines of `lines`; Key
 -- of `scalar`; Scalars, Represent, Core, Flow, Rows and Block of this crate. Assumes nothing.
 use mathlib.Core.Path.{_≡_}
@@ -152,8 +152,7 @@ keptRows (note s b ∷ rs) (gap d) = if allWhite s then keptRows rs (gap d) else
 keptRows (body m t b ∷ rs) closed = trimmed t × (stripComment (inner t) ≡ inner t) × (isMarker (inner t) ≡ false) × keptRows rs (opened (m + indentOf t) (inner t))
 -- `a:  |⏎ b: |⏎ x⏎`: behind such a row comes no other of its literal
 keptRows (body m t b ∷ rs) (under d) = (d < m) × trimmed t × keptRows rs (under d)
--- `a: |⏎ x⏎⏎   y⏎`: behind blank lines comes a row that is not deeper than the first
-keptRows (body m t b ∷ rs) (gap d) = (d < m) × trimmed t × (starts (ch " ") t ≡ false) × keptRows rs (under d)
+keptRows (body m t b ∷ rs) (gap d) = (d < m) × trimmed t × keptRows rs (under d)
 -- `a:  |⏎⏎ x⏎`: a literal with a blank row opens behind one space
 keptRows (blank k b ∷ rs) closed = ⊥
 keptRows (blank k b ∷ rs) (under d) = keptRows rs (gap d)

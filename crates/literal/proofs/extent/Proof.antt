@@ -19,17 +19,18 @@ loop-holds c =
     let a = c .before .args in
     (search needs, search needs, search needs, count-start (a .table .now) (a .count) (a .indent) (a .first))
 
-sub-len : tie.Need-sub-len Inv-loop μ-loop
-sub-len c =
-    let l = c .before .before .before .before .before .before .loop in
-    omega (arith, c .before .before .before .before .before .before .before .before .pre .3 (l .i) (omega arith))
+sub-size : tie.Need-sub-size Inv-loop μ-loop
+sub-size c =
+    let l = c .before .before .before .before .before .loop in
+    omega (arith, c .before .before .before .before .before .before .before .pre .3 (l .i) (omega arith))
 
 loop-again : tie.Need-loop-again Inv-loop μ-loop
 loop-again c =
-    let a = c .before .before .before .before .before .before .before .before .args in
-    let l = c .before .before .before .before .before .before .loop in
-    let e = c .before .before .before .before .entry-at in
-    (search needs, search needs, omega arith, count-more (a .table .now) (a .count) (a .indent) (a .first) (l .i) (l .len) (l .inv .3) (e .result) (e .ensures) (search needs) (search needs))
+    let a = c .before .before .before .before .before .before .before .before .before .args in
+    let l = c .before .before .before .before .before .before .before .loop in
+    let e = c .before .before .before .before .before .entry-at in
+    let s = c .extra-spaces in
+    (search needs, search needs, omega arith, count-more (a .table .now) (a .count) (a .indent) (a .first) (l .i) (l .len) (l .inv .3) (e .result) (e .ensures) (search needs) (search needs) (s .result) (s .ensures .0))
 
 returns : tie.Need-returns Inv-loop μ-loop
 returns c =
@@ -53,7 +54,8 @@ extent-spec =
     μ-loop
     loop-holds
     (λ c κs. search needs)
-    sub-len
+    sub-size
+    (λ c κs. search needs)
     (λ c. search needs)
     (λ c. search needs)
     (λ c. omega arith)

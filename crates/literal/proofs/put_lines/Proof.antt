@@ -21,54 +21,61 @@ abbrev μ-loop : tie.MeasureT-loop
 loop-holds : tie.Need-loop-holds Inv-loop μ-loop
 loop-holds c = (search needs, refl, refl, refl)
 
+entry-at-requires : tie.Need-entry-at-requires Inv-loop μ-loop
+entry-at-requires c κs =
+    let r = c .before .before .before .before .before .pre .0 in
+    omega (arith, r .whole, r .few)
+
+sub-size : tie.Need-sub-size Inv-loop μ-loop
+sub-size c =
+    let p = c .before .before .before .before .before .before .before .before .pre .0 .placed (c .before .before .before .before .loop .i) (omega arith) in
+    omega (arith, p .ordered)
+
 sub-put-line : tie.Need-sub-put-line Inv-loop μ-loop
 sub-put-line c =
-    let p = c .before .before .before .before .before .before .before .before .pre .3 (c .before .before .before .before .loop .i) (omega arith) in
+    let p = c .before .before .before .before .before .before .before .before .before .before .pre .0 .placed (c .before .before .before .before .before .before .loop .i) (omega arith) in
     omega (arith, p .ordered)
 
 part-put-line-start : tie.Need-part-put-line-start Inv-loop μ-loop
 part-put-line-start c =
-    let p = c .before .before .before .before .before .before .before .before .pre .3 (c .before .before .before .before .loop .i) (omega arith) in
+    let p = c .before .before .before .before .before .before .before .before .before .before .pre .0 .placed (c .before .before .before .before .before .before .loop .i) (omega arith) in
     omega (arith, p .ordered)
 
 part-put-line-end : tie.Need-part-put-line-end Inv-loop μ-loop
 part-put-line-end c =
-    let p = c .before .before .before .before .before .before .before .before .pre .3 (c .before .before .before .before .loop .i) (omega arith) in
+    let p = c .before .before .before .before .before .before .before .before .before .before .pre .0 .placed (c .before .before .before .before .before .before .loop .i) (omega arith) in
     omega (arith, p .inside)
 
 put-line-requires : tie.Need-put-line-requires Inv-loop μ-loop
 put-line-requires c κs =
-    let b = c .before .before .before .before .before .before .before in
+    let b = c .before .before .before .before .before .before .before .before in
     let a = b .before .before .before .before .args in
-    let w = b .before .before .before .before .pre .3 in
-    let e = c .before .before .before .before .before .entry-at in
-    let p = w (b .loop .i) (omega arith) in
-    let s = entry-size (a .text .now) (a .table .now) (a .count) (a .indent) (b .loop .i) (e .result) (e .ensures) (omega arith) (omega arith) w in
+    let r = b .before .before .before .before .pre .0 in
+    let e = c .before .before .before .before .before .before .entry-at in
+    let x = c .before .before .extra-spaces in
+    let p = r .placed (b .loop .i) (omega arith) in
+    let s = entry-size (a .text .now) (a .table .now) (a .count) (a .indent) r (b .loop .i) (e .result) (e .ensures) (omega arith) (omega arith) (x .result) (x .ensures .0) in
     let t = part-length (a .text .now) (e .result .start) (e .result .end) (omega (arith, p .ordered)) (omega (arith, p .inside)) in
     (omega (arith, s, t), omega arith)
-
-sub-p : tie.Need-sub-p Inv-loop μ-loop
-sub-p c =
-    let b = c .before .before .before .before .before .before .before .before .before .before .before in
-    let p = b .before .before .before .before .pre .3 (b .loop .i) (omega arith) in
-    omega (arith, p .ordered)
 
 add-p-3 : tie.Need-add-p-3 Inv-loop μ-loop
 add-p-3 c =
     let b = c .before .before .before .before .before .before .before .before .before .before .before in
     let a = b .before .before .before .before .args in
     let e = c .before .before .before .before .before .before .before .before .before .entry-at in
-    omega (arith, entry-size (a .text .now) (a .table .now) (a .count) (a .indent) (b .loop .i) (e .result) (e .ensures) (omega arith) (omega arith) (b .before .before .before .before .pre .3))
+    let x = c .before .before .before .before .before .extra-spaces in
+    omega (arith, entry-size (a .text .now) (a .table .now) (a .count) (a .indent) (b .before .before .before .before .pre .0) (b .loop .i) (e .result) (e .ensures) (omega arith) (omega arith) (x .result) (x .ensures .0))
 
 loop-again : tie.Need-loop-again Inv-loop μ-loop
 loop-again c =
     let b = c .before .before .before .before .before .before .before .before .before .before .before in
     let a = b .before .before .before .before .args in
     let l = b .loop in
-    let w = b .before .before .before .before .pre .3 in
+    let r = b .before .before .before .before .pre .0 in
     let e = c .before .before .before .before .before .before .before .before .before .entry-at in
-    let s = entry-size (a .text .now) (a .table .now) (a .count) (a .indent) (l .i) (e .result) (e .ensures) (omega arith) (omega arith) w in
-    (search needs, search needs, omega (arith, s), write-more (a .text .now) (a .table .now) (a .count) (a .indent) (l .i) (e .result) (e .ensures) (omega arith) (omega arith) w (l .out) (l .p) (a .to) (c .before .before .before .put-line .ensures) ∙ l .inv .3)
+    let x = c .before .before .before .before .before .extra-spaces in
+    let s = entry-size (a .text .now) (a .table .now) (a .count) (a .indent) r (l .i) (e .result) (e .ensures) (omega arith) (omega arith) (x .result) (x .ensures .0) in
+    (search needs, search needs, omega (arith, s), write-more (a .text .now) (a .table .now) (a .count) (a .indent) r (l .i) (e .result) (e .ensures) (omega arith) (omega arith) (x .result) (x .ensures .0) (l .out) (l .p) (a .to) (c .before .before .put-line .ensures) ∙ l .inv .3)
 
 returns : tie.Need-returns Inv-loop μ-loop
 returns c =
@@ -91,12 +98,13 @@ put-lines-spec =
     Inv-loop
     μ-loop
     loop-holds
+    entry-at-requires
+    sub-size
     (λ c κs. search needs)
     sub-put-line
     part-put-line-start
     part-put-line-end
     put-line-requires
-    sub-p
     (λ c. search needs)
     (λ c. search needs)
     add-p-3

@@ -43,8 +43,8 @@ put-lines-requires c κs =
     let n = c .before .before .before .before .before .before .kept-len in
     let k = extent-some (a .text .now) (a .table .now) (a .count) (a .i) (a .indent) r (s .pre .1) (s .pre .2) (x .result) (x .ensures) in
     let g = kept-range (a .strip) (x .result .len) (n .result) k (n .ensures) in
-    let z = x .ensures .size (a .text .now) (r .placed) in
-    (r .whole, r .few, search needs, r .placed, search needs, search needs, omega (arith, z, g .1), omega (arith, z, g .0))
+    let z = x .ensures .size (a .text .now) r in
+    (r, search needs, search needs, search needs, omega (arith, z, g .1), omega (arith, z, g .0))
 
 returns-2 : tie.Need-returns-2
 returns-2 c =
