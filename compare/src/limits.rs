@@ -13,8 +13,8 @@ const TEXT_BYTES: usize = 65_535;
 const ENTRIES: usize = 2_048;
 const LEVELS: usize = 32;
 
-/// What a byte of text adds at most to the running sum of 50: a digit as an integer. By P3 a literal's
-/// line gives no more bytes than it has, with its newline.
+/// What a byte of text adds at most to the running sum of 50: a digit as an integer. By P3 a
+/// line of a literal gives no more bytes than it has, with its newline.
 const MOST_FOR_A_BYTE: usize = 14;
 
 const DRUMREAD_BYTES: usize = 65_536;
