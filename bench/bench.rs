@@ -220,6 +220,34 @@ fn each_kind<T>(kinds: impl Fn(usize) -> Vec<(&'static str, T)>) -> Vec<(&'stati
     a.into_iter().zip(b).zip(c).zip(d).map(|(((a, b), c), d)| (a.0, [a.1, b.1, c.1, d.1])).collect()
 }
 
+/// A beat of drums on one supply, each stroke behind the first shares given by itself.
+fn stroke_by_stroke(wishes: &[u32], allowed: u32) -> [u32; drum::DRUMS] {
+    let mut got = [0; drum::DRUMS];
+    let first = allowed / wishes.len() as u32;
+    wishes.iter().zip(&mut got).for_each(|(wish, got)| *got = first.min(*wish));
+    let mut rest = allowed - got.iter().sum::<u32>();
+    loop {
+        let before = rest;
+        for (wish, got) in wishes.iter().zip(&mut got) {
+            if rest > 0 && got < wish {
+                *got += 1;
+                rest -= 1;
+            }
+        }
+        if rest == before {
+            return got;
+        }
+    }
+}
+
+/// A row of the table of beats, in nanoseconds.
+fn beat(name: &str, wishes: &[u32], allowed: u32) {
+    assert_eq!(drum::share(wishes, allowed), Ok(stroke_by_stroke(wishes, allowed)));
+    let single = best(|| _ = black_box(stroke_by_stroke(black_box(wishes), black_box(allowed)))) * 1e3;
+    let ours = best(|| _ = black_box(drum::share(black_box(wishes), black_box(allowed)))) * 1e3;
+    println!("| {name} | {allowed} | {single:.0} | {ours:.0} |");
+}
+
 fn main() {
     let mut lent = Lent { work: vec![0; WORK_MAX], record: vec![0; RECORD_MAX], lines: vec![0; LINES_MAX] };
     println!("Microseconds of processor time, best of {RUNS}. Ours is lent outputs that are enough for any text; \"cleared\" fills them with zeros before each run.\n");
@@ -241,4 +269,11 @@ fn main() {
     for (name, parts) in each_kind(records) {
         grow(name, parts, |record| _ = black_box(drum::check_record(record).expect("a record")));
     }
+    println!("\n| wishes in a beat, nanoseconds | allowed | stroke by stroke | ours |\n|---|---|---|---|");
+    beat("7 of 0, one of 255", &[0, 0, 0, 0, 0, 0, 0, 255], 250);
+    beat("0, 36, 72 and on to 252", &[0, 36, 72, 108, 144, 180, 216, 252], 900);
+    beat("8 of 255", &[255; 8], 1000);
+    beat("8 of 255, all met", &[255; 8], u32::MAX);
+    beat("1, 9 and 9", &[1, 9, 9], 8);
+    beat("one of 255", &[255], 100);
 }

@@ -1,9 +1,9 @@
-/* The drum reader: programme texts to records, and what can be asked of a record.
+/* The drum reader: programme texts to records, what can be asked of a record, and how drums share a supply.
  *
  *     rt staticlib drum                                     writes target/staticlib/libdrum.a (x86-64 Linux)
  *     cc -Iinclude player.c target/staticlib/libdrum.a
  *
- * Every function behind this header is proved: it answers what document 01 says, stays within the buffers that it is lent, and ends, for
+ * Every function behind this header is proved: it answers what documents 01 and 02 say, stays within the buffers that it is lent, and ends, for
  * any bytes whatever. docs/RECORD.md has the layout of a record, docs/REFUSALS.md the refusals.
  *
  * Buffers. Each comes as a pointer and the number of its elements. Inputs (const) are read and never written. Outputs are written from
@@ -58,6 +58,9 @@ extern "C" {
  * the rest. */
 #define DRUM_STACK 65536
 
+/* The most drums on one supply, and the strokes that drum_share gives. */
+#define DRUM_DRUMS 8
+
 /* Reads the tree of a text into work. Accepted: the bytes of the tree. */
 uint32_t drum_read_tree(const uint8_t *text, size_t text_len, uint8_t *work, size_t work_len, uint64_t *answer, size_t answer_len);
 
@@ -97,6 +100,15 @@ uint32_t drum_value_by_key(const uint8_t *record, size_t record_len, size_t numb
 /* How often the step with this number is repeated: the value beside its key `times`. Accepted: that number, from 1 to 4,294,967,295. Refused
  * with 38 or 39 for another value or none, and like the lookups. */
 uint32_t drum_times(const uint8_t *record, size_t record_len, size_t number, uint64_t *answer, size_t answer_len);
+
+/* Several drums on one supply: what each gets in a beat. wishes has the strokes that each drum wants, up to 255, for 1 to 8 drums; the supply
+ * allows so many strokes, at least one for each drum. Each drum first gets the smaller of its wish and its part of what is allowed, rounded
+ * down; what remains goes out one stroke at a time, in the order of the drums, round after round, to those that still want. strokes is eight
+ * numbers, all of them written: what each drum gets, 0 for a drum that is not there, and 0 for all on a refusal. Accepted: no numbers.
+ * Refused with 61 for no drum, more than 8 or a wish above 255; then with 62 where fewer strokes are allowed than there are drums. Nothing is
+ * carried from one beat to the next. */
+uint32_t drum_share(const uint32_t *wishes, size_t wishes_len, uint32_t allowed, uint32_t strokes[DRUM_DRUMS], uint64_t *answer,
+                    size_t answer_len);
 
 #ifdef __cplusplus
 }

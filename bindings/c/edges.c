@@ -144,6 +144,34 @@ static void most_steps(void) {
                == DRUM_ACCEPTED && answer[4] == steps, "as many steps as a text can have");
 }
 
+static uint32_t shared(const uint32_t *given, size_t n, uint32_t allowed, uint32_t *strokes, uint64_t *answer) {
+    uint32_t *wishes = malloc(n > 0 ? n * sizeof *wishes : 1), *lent = malloc(DRUM_DRUMS * sizeof *lent);
+    if (!wishes || !lent) exit(2);
+    if (n > 0) memcpy(wishes, given, n * sizeof *wishes);
+    memset(lent, 7, DRUM_DRUMS * sizeof *lent);
+    uint32_t result = drum_share(wishes, n, allowed, lent, answer, DRUM_ANSWER);
+    memcpy(strokes, lent, DRUM_DRUMS * sizeof *lent);
+    free(wishes);
+    free(lent);
+    return result;
+}
+
+/* Drums on one supply: all eight numbers are written, and the answer has none. */
+static void shares(void) {
+    static const uint32_t uneven[] = {1, 9, 9}, most[] = {255, 255, 255, 255, 255, 255, 255, 255, 0}, over[] = {256}, none[DRUM_DRUMS];
+    static const uint32_t given[DRUM_DRUMS] = {1, 4, 3};
+    uint32_t strokes[DRUM_DRUMS];
+    uint64_t answer[DRUM_ANSWER];
+    static const uint64_t accepted[DRUM_ANSWER] = {DRUM_ACCEPTED}, refused[DRUM_ANSWER] = {DRUM_REFUSED, 61};
+    expect(shared(uneven, 3, 8, strokes, answer) == DRUM_ACCEPTED && !memcmp(answer, accepted, sizeof answer), "shares are accepted");
+    expect(!memcmp(strokes, given, sizeof strokes), "first shares, then two rounds");
+    expect(shared(most, 8, UINT32_MAX, strokes, answer) == DRUM_ACCEPTED && !memcmp(strokes, most, sizeof strokes), "all that is wished");
+    expect(shared(most, 8, 7, strokes, answer) == DRUM_REFUSED && answer[1] == 62 && !memcmp(strokes, none, sizeof strokes), "62 leaves zeros");
+    expect(shared(most, 9, 9, strokes, answer) == DRUM_REFUSED && answer[1] == 61 && !memcmp(strokes, none, sizeof strokes), "nine drums");
+    expect(shared(none, 0, 9, strokes, answer) == DRUM_REFUSED && answer[1] == 61 && !memcmp(strokes, none, sizeof strokes), "no drum");
+    expect(shared(over, 1, 0, strokes, answer) == DRUM_REFUSED && !memcmp(answer, refused, sizeof answer), "61 before 62");
+}
+
 int main(void) {
     exact();
     short_answers();
@@ -151,6 +179,7 @@ int main(void) {
     shared_ids();
     damaged();
     most_steps();
+    shares();
     if (!failed) printf("ok edges\n");
     return failed;
 }

@@ -22,6 +22,8 @@ pub const TEXT_MAX: usize = 65_535;
 pub const WORK_MAX: usize = 1_048_576;
 pub const RECORD_MAX: usize = 1_048_576;
 pub const LINES_MAX: usize = 16_384;
+/// The most drums on one supply.
+pub const DRUMS: usize = 8;
 
 /// Why a text or a record is refused. Lines and steps count from 1, and are 0 where none is named.
 #[derive(Clone, Copy, Debug, PartialEq, Eq)]
@@ -142,6 +144,17 @@ pub fn value_by_key<'a>(record: &'a [u8], number: usize, key: &str) -> Result<Op
 pub fn times(record: &[u8], number: usize) -> Result<u32, Refusal> {
     let told = ask(|answer, places| unsafe { raw::drum_times(record.as_ptr(), record.len(), number, answer, places) });
     Ok(numbers(told)?[0] as u32)
+}
+
+/// What each of up to eight drums on one supply gets in a beat, by what each wishes, up to 255, and what the supply allows; 0 for a drum that
+/// is not there.
+pub fn share(wishes: &[u32], allowed: u32) -> Result<[u32; DRUMS], Refusal> {
+    let mut strokes = [0; DRUMS];
+    let told = ask(|answer, places| unsafe {
+        raw::drum_share(wishes.as_ptr(), wishes.len(), allowed, strokes.as_mut_ptr(), answer, places)
+    });
+    numbers(told)?;
+    Ok(strokes)
 }
 
 const OUT_OF_RANGE: Refusal = Refusal { number: 53, line: 0, step: 0 };

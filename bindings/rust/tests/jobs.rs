@@ -116,6 +116,17 @@ fn zeros_in_front() {
 }
 
 #[test]
+fn shares() {
+    assert_eq!(drum::share(&[1, 9, 9], 8), Ok([1, 4, 3, 0, 0, 0, 0, 0]));
+    assert_eq!(drum::share(&[255; 8], u32::MAX), Ok([255; 8]));
+    assert_eq!(drum::share(&[0, 255], 2), Ok([0, 2, 0, 0, 0, 0, 0, 0]));
+    assert_eq!(drum::share(&[], 8), Err(refusal(61, 0, 0)));
+    assert_eq!(drum::share(&[1; 9], 8), Err(refusal(61, 0, 0)));
+    assert_eq!(drum::share(&[256], 0), Err(refusal(61, 0, 0)));
+    assert_eq!(drum::share(&[0; 8], 7), Err(refusal(62, 0, 0)));
+}
+
+#[test]
 fn threads() {
     let texts = [NOON, ROUNDS, KINDS];
     let alone = texts.map(read);

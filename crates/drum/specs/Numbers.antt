@@ -12,7 +12,10 @@ unfoldable pub numbers : {A : Type 0} → (A → List ℕ) → Answer A → List
 numbers f (good a) = f a
 numbers f (refused n l s) = 1 ∷ n ∷ l ∷ s ∷ 0 ∷ []
 
--- accepted is 0
+-- accepted is 0; what a job gives elsewhere is not told again
+unfoldable pub ofNone : List ℕ → List ℕ
+ofNone ns = 0 ∷ 0 ∷ 0 ∷ 0 ∷ 0 ∷ []
+
 unfoldable pub ofOne : ℕ → List ℕ
 ofOne n = 0 ∷ n ∷ 0 ∷ 0 ∷ 0 ∷ []
 

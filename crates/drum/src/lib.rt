@@ -1,4 +1,4 @@
-// The jobs of document 01 for programs in C and Rust. What is lent comes as a pointer and a length; every answer is five numbers, told as
+// The jobs of document 01, and of P11 of document 02, for programs in C and Rust. What is lent comes as a pointer and a length; every answer is five numbers, told as
 // far as there are places for them, of which the first is the result too. include/drum.h says this to C.
 ghost use mathlib.Core.Path.{_≡_};
 ghost use mathlib.Core.List.{[], _∷_};
@@ -10,13 +10,16 @@ ghost use Rattle.record.specs.Jobs as definition;
 ghost use Rattle.record.specs.Jobs.{lookupOf};
 ghost use Rattle.check_steps.specs.CheckSteps.{checkSteps};
 ghost use Rattle.lookups.specs.Lookups as lookup;
-ghost use Rattle.drum.specs.Numbers.{numbers, ofOne, ofFour, ofFound, firstOf, told, Tells};
+ghost use Rattle.share.specs.Share as shared;
+ghost use Rattle.share.specs.Share.{numbersOf};
+ghost use Rattle.drum.specs.Numbers.{numbers, ofNone, ofOne, ofFour, ofFound, firstOf, told, Tells};
 use check_steps::StepsAnswer;
 use lookups::TimesAnswer;
 use record::Lookup;
 use record::RecordAnswer;
 use refusal::Refusal;
 use scenario::ScenarioAnswer;
+use share::ShareAnswer;
 use tree::TreeAnswer;
 
 // The first number of an answer.
@@ -211,5 +214,28 @@ pub extern "C" fn drum_times(record: &[u8], number: usize, answer: &mut [u64]) -
     match lookups::times(record, number) {
         TimesAnswer::Times(n) => tell(answer, ACCEPTED, n as u64, 0, 0, 0),
         TimesAnswer::Refused(e) => tell_refusal(answer, e),
+    }
+}
+
+// What each of several drums on one supply gets in a beat, eight numbers in their order; the answer has no numbers.
+#[no_mangle]
+pub extern "C" fn drum_share(
+    wishes: &[u32],
+    allowed: u32,
+    strokes: &mut [u32; 8],
+    answer: &mut [u64],
+) -> u32
+    ensures result { λ r. ⌜ r ≡ firstOf (numbers ofNone (shared.share (now (wishes .entry)) allowed)) ⌝ }
+    ensures answer { λ r. ⌜ now (answer .exit) ≡ told (numbers ofNone (shared.share (now (wishes .entry)) allowed))
+        (now (answer .entry)) ⌝ }
+    ensures strokes { λ r. ⌜ now (strokes .exit) ≡ numbersOf (shared.share (now (wishes .entry)) allowed) ⌝ }
+{
+    let shares = share::share(wishes, allowed);
+    let given = shares.strokes;
+    let outcome = shares.answer;
+    *strokes = given;
+    match outcome {
+        ShareAnswer::Given => tell(answer, ACCEPTED, 0, 0, 0, 0),
+        ShareAnswer::Refused(e) => tell_refusal(answer, e),
     }
 }

@@ -1,23 +1,14 @@
 -- Runs of keys in their order: the search for a key, and a key put in at its place. Assumes nothing.
 use mathlib.Core.Path.{_≡_, refl, ap, _∙_, subst}
-use mathlib.Core.Logic.{_⊎_, inl, inr, ⊎-elim}
+use mathlib.Core.Logic.{⊎-elim}
 use Prim.Native.Nat.{ℕ, _+_, _*_, _-_, _/_, _%_, _^_, _≤_, _<_}
 use native.Mathlib.Omega.{arith}
 use mathlib.Core.List.{List}
-use mathlib.Core.Bool.{Bool, true, false}
-use lib.Dec.{ltb}
 use lib.ListN.{length, take, drop, getD, set, length-set}
 use lib.Seq.{getD-set-same, getD-set-other}
-use borrow.Author.Tests.{ltb-true, ltb-false}
+use Rattle.refusal.proofs.Tools.{split}
 use Rattle.entries.specs.Contract.{Below, keyOf, WordInside, Run, Held, Gap, Inserted}
 use Rattle.entries.proofs.Order.{below-self, below-through}
-
-split : (i j : ℕ) → (i < j) ⊎ (j ≤ i)
-split i j = go (ltb i j) refl
-  where
-    go : (t : Bool) → ltb i j ≡ t → (i < j) ⊎ (j ≤ i)
-    go true q = inl (ltb-true i j q)
-    go false q = inr (ltb-false i j q)
 
 -- ---- words moved up
 

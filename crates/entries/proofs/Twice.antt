@@ -12,6 +12,7 @@ use lib.Seq.{drop-at, drop-drop, drop-cons}
 use borrow.Author.Tests.{eq-eqb, eqb-true, eqb-false}
 use lib.Dec.{eqb}
 use Rattle.refusal.specs.Base.{same}
+use Rattle.refusal.proofs.Tools.{neither}
 use Rattle.item.specs.Tree.{Yaml, Entries, done, pair, add, hasKey}
 use Rattle.item.specs.Encode.{item, encode}
 use Rattle.item.proofs.Exact.{and-left, and-right}
@@ -51,10 +52,6 @@ or-right false b e = e
 
 and-both : (a b : Bool) → a ≡ true → b ≡ true → a && b ≡ true
 and-both a b e f = rw (e, f)
-
-neither : (a b : Bool) → a || b ≡ false → (a ≡ false) × (b ≡ false)
-neither true b e = absurd (false≢true (sym e))
-neither false b e = (refl, e)
 
 clash : {b : Bool} → b ≡ true → b ≡ false → ⊥
 clash e f = false≢true (sym f ∙ e)

@@ -1,15 +1,18 @@
--- Where a refusal names a line or a step, it counts from 1: the words, and what follows of an answer made of others. Assumes nothing.
+-- Where a refusal names a line or a step, it counts from 1, and its number is one of document 01's: the words, and what follows of an answer made of
+-- others. Assumes nothing.
 use mathlib.Core.Path.{_≡_, refl, sym, _∙_}
 use Prim.Native.Nat.{ℕ, _≤_}
-use mathlib.Core.Bool.{Bool, true, false, false≢true}
+use mathlib.Core.Bool.{Bool, true, false, _||_, false≢true}
 use mathlib.Core.Option.{Option, none, some}
+use lib.Dec.{leb}
 use Rattle.refusal.specs.Base.{Answer, good, refused, _>>=_, _>>_, if_then_else_, given, ensure}
-use Rattle.refusal.proofs.Tools.{refused≢good}
+use Rattle.refusal.proofs.Tools.{refused≢good, neither}
 use Rattle.scalar.specs.Read.{charge}
 use Rattle.named.specs.Named.{lined, stepped}
 
--- what a refusal names counts from 1
+-- what a refusal names counts from 1; the numbers from 61 on are those of other jobs
 pub record Counted (n l s : ℕ) : Type 0 where
+  pub own : leb 61 n ≡ false
   pub line : lined n ≡ true → 1 ≤ l
   pub step : stepped n ≡ true → 1 ≤ s
 
@@ -28,12 +31,16 @@ refuses {A} k i j c n l s e =
     rw (← x, ← y, ← z) c
 
 -- no line and no step
-pub plainly : {A : Type 0} {k : ℕ} → lined k ≡ false → stepped k ≡ false → Counts {A = A} (refused k 0 0)
-plainly {k = k} p q = refuses k 0 0 (record { line = λ e. absurd (false≢true (sym p ∙ e)); step = λ e. absurd (false≢true (sym q ∙ e)) })
+pub plainly : {A : Type 0} {k : ℕ} → lined k || leb 61 k ≡ false → stepped k ≡ false → Counts {A = A} (refused k 0 0)
+plainly {k = k} p q =
+    let (p, o) = neither (lined k) (leb 61 k) p in
+    refuses k 0 0 (record { own = o; line = λ e. absurd (false≢true (sym p ∙ e)); step = λ e. absurd (false≢true (sym q ∙ e)) })
 
 -- a step
-pub stepwise : {A : Type 0} {k l s : ℕ} → lined k ≡ false → 1 ≤ s → Counts {A = A} (refused k l s)
-stepwise {k = k} {l} {s} p h = refuses k l s (record { line = λ e. absurd (false≢true (sym p ∙ e)); step = λ _. h })
+pub stepwise : {A : Type 0} {k l s : ℕ} → lined k || leb 61 k ≡ false → 1 ≤ s → Counts {A = A} (refused k l s)
+stepwise {k = k} {l} {s} p h =
+    let (p, o) = neither (lined k) (leb 61 k) p in
+    refuses k l s (record { own = o; line = λ e. absurd (false≢true (sym p ∙ e)); step = λ _. h })
 
 pub binds : {A B : Type 0} {a : Answer A} {f : A → Answer B} → Counts a → ((x : A) → Counts (f x)) → Counts (a >>= f)
 unfolding _>>=_

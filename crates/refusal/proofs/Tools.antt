@@ -1,9 +1,12 @@
--- How a proof goes through the definitions: what a good answer of a bind or of a choice tells. Assumes nothing.
-use mathlib.Core.Path.{_≡_, refl, ap}
-use Prim.Native.Nat.{ℕ}
+-- How a proof goes through the definitions: what a good answer of a bind or of a choice tells, and what a test tells. Assumes nothing.
+use mathlib.Core.Path.{_≡_, refl, sym, ap}
+use mathlib.Core.Logic.{_⊎_, inl, inr}
+use Prim.Native.Nat.{ℕ, _≤_, _<_}
 use native.Mathlib.Omega.{arith}
-use mathlib.Core.Bool.{Bool, true, false}
+use mathlib.Core.Bool.{Bool, true, false, _||_, false≢true}
 use mathlib.Core.Option.{Option, none, some}
+use lib.Dec.{ltb}
+use borrow.Author.Tests.{ltb-true, ltb-false}
 use Rattle.refusal.specs.Base.{Answer, good, refused, _>>=_, _>>_, if_then_else_, maybe, given, ensure}
 
 pub good-inj : {A : Type 0} (a b : A) → good a ≡ good b → a ≡ b
@@ -56,6 +59,19 @@ pub if-cong : {A : Type 0} (t : Bool) (a a′ c c′ : A) → (t ≡ true → a 
 unfolding if_then_else_
 if-cong true a a′ c c′ h k = h refl
 if-cong false a a′ c c′ h k = k refl
+
+-- which of two numbers is below the other
+pub split : (i j : ℕ) → (i < j) ⊎ (j ≤ i)
+split i j = go (ltb i j) refl
+  where
+    go : (t : Bool) → ltb i j ≡ t → (i < j) ⊎ (j ≤ i)
+    go true e = inl (ltb-true i j e)
+    go false e = inr (ltb-false i j e)
+
+-- neither of two tests
+pub neither : (a b : Bool) → a || b ≡ false → (a ≡ false) × (b ≡ false)
+neither true b e = absurd (false≢true (sym e))
+neither false b e = (refl, e)
 
 -- what holds of both
 pub both : {A : Type 0} (P : A → Type 0) (t : Bool) (a c : A) → P a → P c → P (if t then a else c)

@@ -1,5 +1,5 @@
-// Why a text, a record or a lookup is refused: a case for each number of document 01, holding the line and the step that its
-// answer names. Both count from 1; a line is 0 where a step has none.
+// Why a text, a record, a lookup or a beat is refused: a case for each number of document 01, and of the requests of document 02,
+// holding the line and the step that its answer names. Both count from 1; a line is 0 where a step has none.
 ghost use mathlib.Core.Path.{_≡_};
 ghost use Rattle.refusal.specs.Told.{told, toldOf};
 
@@ -48,6 +48,8 @@ pub enum Refusal {
     TooFewLinePlaces,
     RecordTooLong,
     OutOfRange,
+    WishesOutOfRange,
+    SupplyTooSmall,
 }
 
 // What an answer names of a refusal, 0 where it names none.
@@ -112,6 +114,8 @@ impl Refusal {
             Refusal::TooFewLinePlaces => tell(51, 0, 0),
             Refusal::RecordTooLong => tell(52, 0, 0),
             Refusal::OutOfRange => tell(53, 0, 0),
+            Refusal::WishesOutOfRange => tell(61, 0, 0),
+            Refusal::SupplyTooSmall => tell(62, 0, 0),
         }
     }
 }

@@ -6,6 +6,7 @@ mod print;
 mod records;
 mod scenarios;
 mod section;
+mod shares;
 mod steps;
 mod stream;
 mod trees;
@@ -26,6 +27,7 @@ use crate::section::SCENARIO_CHECKS;
 use crate::section::SCENARIO_SIZES;
 use crate::section::SCENARIO_TREES;
 use crate::section::SCENARIOS;
+use crate::section::SHARES;
 use crate::section::Section;
 use crate::section::TREES;
 use crate::section::VALUES;
@@ -46,6 +48,7 @@ fn answer(section: Section, text: &[u8]) {
         RECORDS => records::print_record(text),
         RECORD_CHECKS => steps::print_record_check(text),
         LOOKUPS => steps::print_lookups(text),
+        SHARES => shares::print_shares(text),
         SCENARIOS | SCENARIO_TREES | SCENARIO_SIZES => scenarios::print_scenario(section, text),
         _ => {}
     }

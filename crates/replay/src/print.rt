@@ -25,6 +25,20 @@ pub(crate) fn print_spaced(n: usize) {
     print_number(n);
 }
 
+// The caller owes nothing for the cast.
+fn print_narrow(n: u32) {
+    print_spaced(n as usize);
+}
+
+// So many numbers, or all that there are.
+pub(crate) fn print_numbers(numbers: &[u32], count: usize) {
+    for i in 0..count {
+        if i < numbers.len() {
+            print_narrow(numbers[i]);
+        }
+    }
+}
+
 // A byte as a wider number; the caller owes nothing for the cast.
 pub(crate) fn wide(b: u8) -> usize
     ensures { λ r. ⌜ r < 256 ⌝ }

@@ -3,6 +3,7 @@ ghost use Prim.Native.Nat.{_≤_};
 use crate::print::print;
 use crate::print::print_front;
 use crate::print::print_mark;
+use crate::print::print_numbers;
 use crate::print::print_ok;
 use crate::print::print_other;
 use crate::print::print_refusal;
@@ -12,20 +13,6 @@ use crate::section::SCENARIO_TREES;
 use crate::section::Section;
 use item::LIMIT;
 use scenario::ScenarioAnswer;
-
-// The caller owes nothing for the cast.
-fn print_line(n: u32) {
-    print_spaced(n as usize);
-}
-
-fn print_lines(lines: &[u32], steps: usize) {
-    print(b" lines");
-    for i in 0..steps {
-        if i < lines.len() {
-            print_line(lines[i]);
-        }
-    }
-}
 
 // A mark, where a line from this place on is another one.
 fn print_other_lines(lines: &[u32], from: usize, n: u32) {
@@ -44,7 +31,8 @@ fn print_tree(work: &[u8], bytes: usize) {
 fn print_record(record: &[u8], size: usize, lines: &[u32], steps: usize) {
     print_ok();
     print_front(record, size);
-    print_lines(lines, steps);
+    print(b" lines");
+    print_numbers(lines, steps);
 }
 
 fn print_sizes(tree: usize, size: usize, lines: usize, steps: usize) {

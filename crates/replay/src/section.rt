@@ -34,6 +34,8 @@ pub(crate) const SCENARIO_CHECKS: usize = 13;
 pub(crate) const RECORD_CHECKS: usize = 14;
 // The lookups of section 6. A text has the record's length in front, then the record and what is looked for, as an id and as a key.
 pub(crate) const LOOKUPS: usize = 15;
+// What drums on one supply get in a beat. A text has a count of wishes and what the supply allows in front, then the wishes.
+pub(crate) const SHARES: usize = 16;
 
 pub(crate) struct Section {
     pub(crate) kind: usize,

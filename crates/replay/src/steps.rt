@@ -11,6 +11,7 @@ use crate::records::print_lookup;
 use crate::stream::MANY;
 use crate::stream::next_text;
 use crate::stream::number_at;
+use crate::stream::put_numbers;
 use check_steps::StepsAnswer;
 use check_steps::check_steps;
 use item::LIMIT;
@@ -123,14 +124,6 @@ pub(crate) fn print_scenarios(buffer: &mut [u8]) {
 
 // ---- records from outside
 
-fn put_lines(text: &[u8], lines: &mut [u32])
-    requires { ⌜ length (now lines) ≤ 64 ⌝ }
-{
-    for i in 0..lines.len() {
-        lines[i] = number_at(text, 8 + 4 * i) as u32;
-    }
-}
-
 fn print_steps(bytes: &[u8], lines: &[u32], names: &[u8]) {
     match check_steps(bytes, lines, names) {
         StepsAnswer::Good { steps } => {
@@ -144,7 +137,7 @@ fn print_steps(bytes: &[u8], lines: &[u32], names: &[u8]) {
 fn print_with_lines(text: &[u8], lines: &mut [u32], start: usize, end: usize)
     requires { ⌜ length (now lines) ≤ 64 ⌝ }
 {
-    put_lines(text, lines);
+    put_numbers(text, lines);
     print_steps(part(text, start, end), lines, part(text, end, text.len()));
 }
 

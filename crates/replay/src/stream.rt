@@ -1,5 +1,6 @@
 // What the stream has: numbers of 4 bytes, little-endian, and texts, each a number and so many bytes.
-ghost use Prim.Native.Nat.{_<_};
+ghost use Prim.Native.Nat.{_≤_, _<_};
+ghost use lib.ListN.{length};
 use crate::print::wide;
 use libc::STDIN_FILENO;
 
@@ -27,6 +28,15 @@ pub(crate) fn number_at(bytes: &[u8], at: usize) -> usize
         return 0;
     }
     pair(bytes[at], bytes[at + 1]) + 65536 * pair(bytes[at + 2], bytes[at + 3])
+}
+
+// As many numbers as there are places, behind the two at the front of a text.
+pub(crate) fn put_numbers(text: &[u8], numbers: &mut [u32])
+    requires { ⌜ length (now numbers) ≤ 64 ⌝ }
+{
+    for i in 0..numbers.len() {
+        numbers[i] = number_at(text, 8 + 4 * i) as u32;
+    }
 }
 
 // END where the stream ends.

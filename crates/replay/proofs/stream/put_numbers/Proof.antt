@@ -3,17 +3,17 @@ use borrow.Author.Needs.{needs}
 use mathlib.Core.Path.{_≡_}
 use Prim.Native.Nat.{_≤_, _-_}
 use lib.ListN.{length}
-use Rattle.replay.proofs.steps.put_lines.Statement.{statement}
-use Rattle.replay.proofs.steps.put_lines.Tie as tie
+use Rattle.replay.proofs.stream.put_numbers.Statement.{statement}
+use Rattle.replay.proofs.stream.put_numbers.Tie as tie
 
 abbrev Inv-loop : tie.InvT-loop
-Inv-loop text lines₀ i₀ i-end lines i = (i-end ≤ length lines) × (length lines ≡ length lines₀)
+Inv-loop text numbers₀ i₀ i-end numbers i = (i-end ≤ length numbers) × (length numbers ≡ length numbers₀)
 
 abbrev μ-loop : tie.MeasureT-loop
-μ-loop text lines₀ i₀ i-end lines i = i-end - i
+μ-loop text numbers₀ i₀ i-end numbers i = i-end - i
 
-pub put-lines-spec : {M : Type 1} → statement M
-put-lines-spec =
+pub put-numbers-spec : {M : Type 1} → statement M
+put-numbers-spec =
     tie.close
     (tie.spec
     Inv-loop
