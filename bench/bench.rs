@@ -229,7 +229,7 @@ fn stroke_by_stroke(wishes: &[u32], allowed: u32) -> [u32; drum::DRUMS] {
     loop {
         let before = rest;
         for (wish, got) in wishes.iter().zip(&mut got) {
-            if rest > 0 && got < wish {
+            if rest > 0 && *got < *wish {
                 *got += 1;
                 rest -= 1;
             }

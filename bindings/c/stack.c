@@ -64,6 +64,13 @@ static void *times(void *unused) {
     return unused;
 }
 
+static void *share(void *unused) {
+    static const uint32_t wishes[DRUM_DRUMS] = {0, 36, 72, 108, 144, 180, 216, 252};
+    static uint32_t strokes[DRUM_DRUMS];
+    drum_share(wishes, DRUM_DRUMS, 900, strokes, answer, DRUM_ANSWER);
+    return unused;
+}
+
 static size_t used(void *(*job)(void *)) {
     uint8_t *stack = mmap(NULL, STACK, PROT_READ | PROT_WRITE, MAP_PRIVATE | MAP_ANONYMOUS, -1, 0);
     pthread_attr_t attributes;
@@ -199,6 +206,7 @@ int main(void) {
         measure(texts[i].name, "drum_value_by_key", value_by_key);
         measure(texts[i].name, "drum_times", times);
     }
+    measure("eight drums", "drum_share", share);
     printf("most: %zu of DRUM_STACK's %d\n", most, DRUM_STACK);
     return most > DRUM_STACK;
 }
