@@ -6,7 +6,7 @@
  * Every function behind this header is proved: it answers what documents 01 and 02 say, stays within the buffers that it is lent, and ends, for
  * any bytes whatever. docs/RECORD.md has the layout of a record, docs/REFUSALS.md the refusals.
  *
- * Buffers. Each comes as a pointer and the number of its elements. Inputs (const) are read and never written. Outputs are written from
+ * Buffers. Each comes as a pointer and the number of its elements, but for the eight numbers that drum_share writes. Inputs (const) are read and never written. Outputs are written from
  * the front; what stands behind what was written is kept. A refused text leaves zeros in work, record and lines, to their last element.
  * No pointer may be NULL, even where its length is 0. Outputs may not overlap each other or an input. Nothing is kept of any of them when
  * a call returns.
@@ -58,7 +58,7 @@ extern "C" {
  * the rest. */
 #define DRUM_STACK 65536
 
-/* The most drums on one supply, and the strokes that drum_share gives. */
+/* The most drums on one supply; drum_share always writes so many numbers. */
 #define DRUM_DRUMS 8
 
 /* Reads the tree of a text into work. Accepted: the bytes of the tree. */

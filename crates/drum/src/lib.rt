@@ -1,5 +1,6 @@
-// The jobs of document 01, and of P11 of document 02, for programs in C and Rust. What is lent comes as a pointer and a length; every answer is five numbers, told as
-// far as there are places for them, of which the first is the result too. include/drum.h says this to C.
+// The jobs of document 01, and of P11 of document 02, for programs in C and Rust. What is lent comes as a pointer and a length, but for the
+// eight numbers of a share; every answer is five numbers, told as far as there are places for them, of which the first is the result too.
+// include/drum.h says this to C.
 ghost use mathlib.Core.Path.{_≡_};
 ghost use mathlib.Core.List.{[], _∷_};
 ghost use lib.ListN.{length, set};
