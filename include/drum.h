@@ -6,10 +6,10 @@
  * Every function behind this header is proved: it answers what documents 01 and 02 say, stays within the buffers that it is lent, and ends, for
  * any bytes whatever. docs/RECORD.md has the layout of a record, docs/REFUSALS.md the refusals.
  *
- * Buffers. Each comes as a pointer and the number of its elements, but for the eight numbers that drum_share writes. Inputs (const) are read and never written. Outputs are written from
- * the front; what stands behind what was written is kept. A refused text leaves zeros in work, record and lines, to their last element.
- * No pointer may be NULL, even where its length is 0. Outputs may not overlap each other or an input. Nothing is kept of any of them when
- * a call returns.
+ * Buffers. Each comes as a pointer and the number of its elements, but for the eight numbers that drum_share writes. Inputs (const) are
+ * read and never written. Outputs are written from the front; what stands behind what was written is kept. A refused text leaves zeros in
+ * work, record and lines, to their last element. No pointer may be NULL, even where its length is 0. Outputs may not overlap each other or
+ * an input. Nothing is kept of any of them when a call returns.
  *
  * Threads. There is no state: calls may run on several threads at the same time, each with outputs of its own. No memory is allocated, no
  * lock is taken, errno is not touched, and no other function is called but memset.
