@@ -248,6 +248,53 @@ fn beat(name: &str, wishes: &[u32], allowed: u32) {
     println!("| {name} | {allowed} | {single:.0} | {ours:.0} |");
 }
 
+/// The pairs, the lone hammers and the lone sounds of two logs that never fall.
+fn walk(hammers: &[u32], sounds: &[u32]) -> Option<(Vec<[u32; 2]>, Vec<u32>, Vec<u32>)> {
+    if !hammers.is_sorted() || !sounds.is_sorted() {
+        return None;
+    }
+    let (mut pairs, mut lone_hammers, mut lone_sounds) = (Vec::new(), Vec::new(), Vec::new());
+    let (mut i, mut j) = (0, 0);
+    while i < hammers.len() && j < sounds.len() {
+        if hammers[i].abs_diff(sounds[j]) <= 40 {
+            pairs.push([i as u32, j as u32]);
+            i += 1;
+            j += 1;
+        } else if hammers[i] < sounds[j] {
+            lone_hammers.push(i as u32);
+            i += 1;
+        } else {
+            lone_sounds.push(j as u32);
+            j += 1;
+        }
+    }
+    lone_hammers.extend(i as u32..hammers.len() as u32);
+    lone_sounds.extend(j as u32..sounds.len() as u32);
+    Some((pairs, lone_hammers, lone_sounds))
+}
+
+/// A row of the table of logs. Ours is lent lists that are enough for any.
+fn pair(name: &str, hammers: &[u32], sounds: &[u32]) {
+    let (mut pairs, mut lone_hammers, mut lone_sounds) = ([[0; 2]; drum::TIMES], [0; drum::TIMES], [0; drum::TIMES]);
+    let walked = walk(hammers, sounds).expect("rising");
+    let paired = drum::pair_logs(hammers, sounds, &mut pairs, &mut lone_hammers, &mut lone_sounds).expect("rising");
+    assert_eq!(walked.0, pairs[..paired.pairs]);
+    assert_eq!((walked.1, walked.2), (lone_hammers[..paired.lone_hammers].to_vec(), lone_sounds[..paired.lone_sounds].to_vec()));
+    let plain = best(|| _ = black_box(walk(black_box(hammers), black_box(sounds))));
+    let ours = best(|| _ = black_box(drum::pair_logs(black_box(hammers), black_box(sounds), &mut pairs, &mut lone_hammers, &mut lone_sounds)));
+    println!("| {name} | {} | {} | {} | {plain:.2} | {ours:.2} |", hammers.len(), sounds.len(), paired.pairs);
+}
+
+/// So many times that rise by these steps in turn, from a start.
+fn rising(count: usize, start: u32, step: impl Fn(u32) -> u32) -> Vec<u32> {
+    (0..count as u32).scan(start, |time, i| Some(std::mem::replace(time, *time + step(i)))).collect()
+}
+
+/// Steps of up to 80, without order.
+fn uneven(seed: u32) -> impl Fn(u32) -> u32 {
+    move |i| ((i + seed).wrapping_mul(2_654_435_761) >> 16) % 81
+}
+
 fn main() {
     let mut lent = Lent { work: vec![0; WORK_MAX], record: vec![0; RECORD_MAX], lines: vec![0; LINES_MAX] };
     println!("Microseconds of processor time, best of {RUNS}. Ours is lent outputs that are enough for any text; \"cleared\" fills them with zeros before each run.\n");
@@ -276,4 +323,11 @@ fn main() {
     beat("8 of 255, all met", &[255; 8], u32::MAX);
     beat("1, 9 and 9", &[1, 9, 9], 8);
     beat("one of 255", &[255], 100);
+    let even = |start, step| rising(drum::TIMES, start, move |_| step);
+    println!("\n| two logs | hammers | sounds | pairs | a walk with vectors | ours |\n|---|---|---|---|---|---|");
+    pair("all pairs", &even(0, 100), &even(25, 100));
+    pair("every second hammer without a sound", &even(0, 100), &rising(drum::TIMES / 2, 25, |_| 200));
+    pair("all alone, in turn", &even(0, 100), &even(50, 100));
+    pair("uneven", &rising(drum::TIMES, 0, uneven(0)), &rising(drum::TIMES, 0, uneven(1 << 20)));
+    pair("small", &[20, 200, 300], &[0, 39, 60, 260]);
 }

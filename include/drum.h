@@ -1,4 +1,5 @@
-/* The drum reader: programme texts to records, what can be asked of a record, and how drums share a supply.
+/* The drum reader: programme texts to records, what can be asked of a record, how drums share a supply, and what a microphone heard of the
+ * hammers.
  *
  *     rt staticlib drum                                     writes target/staticlib/libdrum.a (x86-64 Linux)
  *     cc -Iinclude player.c target/staticlib/libdrum.a
@@ -8,8 +9,8 @@
  *
  * Buffers. Each comes as a pointer and the number of its elements, but for the eight numbers that drum_share writes. Inputs (const) are
  * read and never written. Outputs are written from the front; what stands behind what was written is kept. A refused text leaves zeros in
- * work, record and lines, to their last element. No pointer may be NULL, even where its length is 0. Outputs may not overlap each other or
- * an input. Nothing is kept of any of them when a call returns.
+ * work, record and lines, refused logs in the three lists, to their last element. No pointer may be NULL, even where its length is 0.
+ * Outputs may not overlap each other or an input. Nothing is kept of any of them when a call returns.
  *
  * Threads. There is no state: calls may run on several threads at the same time, each with outputs of its own. No memory is allocated, no
  * lock is taken, errno is not touched, and no other function is called but memset.
@@ -17,8 +18,8 @@
  * Stack. See DRUM_STACK.
  *
  * Time. Reading takes time in proportion to the text and its tree, the check of a record in proportion to its bytes; mappings whose keys were
- * made to look alike cost more, some 0.3 seconds at most in a record of 1,048,576 bytes. Every lookup checks the record first.
- * docs/SPEED.md has what was measured, and the bounds. */
+ * made to look alike cost more, some 0.3 seconds at most in a record of 1,048,576 bytes. Every lookup checks the record first. Two logs take
+ * time in proportion to their lengths. docs/SPEED.md has what was measured, and the bounds. */
 #ifndef DRUM_H
 #define DRUM_H
 
@@ -60,6 +61,10 @@ extern "C" {
 
 /* The most drums on one supply; drum_share always writes so many numbers. */
 #define DRUM_DRUMS 8
+
+/* The most times of a log, and numbers of pairs that are enough for any two logs; of lone hammers and of lone sounds DRUM_TIMES are. */
+#define DRUM_TIMES 4096
+#define DRUM_PAIRS_MAX 8192
 
 /* Reads the tree of a text into work. Accepted: the bytes of the tree. */
 uint32_t drum_read_tree(const uint8_t *text, size_t text_len, uint8_t *work, size_t work_len, uint64_t *answer, size_t answer_len);
@@ -109,6 +114,16 @@ uint32_t drum_times(const uint8_t *record, size_t record_len, size_t number, uin
  * carried from one beat to the next. */
 uint32_t drum_share(const uint32_t *wishes, size_t wishes_len, uint32_t allowed, uint32_t strokes[DRUM_DRUMS], uint64_t *answer,
                     size_t answer_len);
+
+/* A hammer log against a microphone log: which hammer was heard as which sound. hammers and sounds are times in milliseconds, none below the
+ * one before it, at most 4,096 of each. The first unplaced of each log are a pair if they lie at most 40 ms apart, else the earlier is alone;
+ * behind the end of one log the rest of the other is. Positions count from 0: pairs gets two numbers for each pair, the hammer's and then the
+ * sound's, lone_hammers and lone_sounds those that are alone, all in rising order. No other pairs of hammers and sounds, at most 40 ms apart
+ * and each with one partner at most, are more. Accepted: how many pairs, lone hammers and lone sounds there are. Refused with 64 for more
+ * than 4,096 times in a log; then with 63 for a time below the one before it; then with 65 where one of the three is too short. */
+uint32_t drum_pair_logs(const uint32_t *hammers, size_t hammers_len, const uint32_t *sounds, size_t sounds_len, uint32_t *pairs,
+                        size_t pairs_len, uint32_t *lone_hammers, size_t lone_hammers_len, uint32_t *lone_sounds, size_t lone_sounds_len,
+                        uint64_t *answer, size_t answer_len);
 
 #ifdef __cplusplus
 }

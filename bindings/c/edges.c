@@ -144,11 +144,22 @@ static void most_steps(void) {
                == DRUM_ACCEPTED && answer[4] == steps, "as many steps as a text can have");
 }
 
+static uint32_t *copied(const uint32_t *given, size_t n) {
+    uint32_t *copy = malloc(n > 0 ? n * sizeof *copy : 1);
+    if (!copy) exit(2);
+    if (n > 0) memcpy(copy, given, n * sizeof *copy);
+    return copy;
+}
+
+static uint32_t *sevens(size_t n) {
+    uint32_t *list = malloc(n * sizeof *list);
+    if (!list) exit(2);
+    memset(list, 7, n * sizeof *list);
+    return list;
+}
+
 static uint32_t shared(const uint32_t *given, size_t n, uint32_t allowed, uint32_t *strokes, uint64_t *answer) {
-    uint32_t *wishes = malloc(n > 0 ? n * sizeof *wishes : 1), *lent = malloc(DRUM_DRUMS * sizeof *lent);
-    if (!wishes || !lent) exit(2);
-    if (n > 0) memcpy(wishes, given, n * sizeof *wishes);
-    memset(lent, 7, DRUM_DRUMS * sizeof *lent);
+    uint32_t *wishes = copied(given, n), *lent = sevens(DRUM_DRUMS);
     uint32_t result = drum_share(wishes, n, allowed, lent, answer, DRUM_ANSWER);
     memcpy(strokes, lent, DRUM_DRUMS * sizeof *lent);
     free(wishes);
@@ -172,6 +183,50 @@ static void shares(void) {
     expect(shared(over, 1, 0, strokes, answer) == DRUM_REFUSED && !memcmp(answer, refused, sizeof answer), "61 before 62");
 }
 
+/* Lends lists of exactly so many places, with a number behind them that must stay, and joins them: eight numbers of all three. */
+static uint32_t paired(const uint32_t *hammers, size_t h, const uint32_t *sounds, size_t s, const size_t places[3], uint32_t joined[8],
+                       uint64_t *answer) {
+    uint32_t *logs[2] = {copied(hammers, h), copied(sounds, s)}, *lists[3];
+    for (int k = 0; k < 3; k++) lists[k] = sevens(places[k] + 1);
+    uint32_t result = drum_pair_logs(logs[0], h, logs[1], s, lists[0], places[0], lists[1], places[1], lists[2], places[2], answer, DRUM_ANSWER);
+    memset(joined, 0, 8 * sizeof *joined);
+    for (size_t k = 0, n = 0; k < 3; k++) {
+        expect(lists[k][places[k]] == 0x07070707, "nothing is written behind a list");
+        for (size_t i = 0; i < places[k]; i++) {
+            expect(result == DRUM_ACCEPTED || lists[k][i] == 0, "a refusal leaves zeros in the lists");
+            if (n < 8) joined[n++] = lists[k][i];
+        }
+        free(lists[k]);
+    }
+    free(logs[0]);
+    free(logs[1]);
+    return result;
+}
+
+/* A hammer log against a microphone log: each list too short by one, each refusal beside the later ones, logs as long as may be. */
+static void logs(void) {
+    static const uint32_t hammers[] = {20, 200, 300}, sounds[] = {0, 39, 60, 260}, top[] = {UINT32_MAX}, zero[DRUM_TIMES + 1], falling[] = {2, 1};
+    static const uint32_t lists[8] = {0, 0, 2, 3, 1, 1, 2}, kept[8] = {0, 0, 2, 3, 0x07070707, 1, 0x07070707, 1};
+    static const uint64_t counts[DRUM_ANSWER] = {DRUM_ACCEPTED, 2, 1, 2}, refused[DRUM_ANSWER] = {DRUM_REFUSED, 65};
+    static const size_t none[3], enough[3] = {4, 1, 2}, more[3] = {5, 2, 3}, most[3] = {DRUM_PAIRS_MAX, DRUM_TIMES, DRUM_TIMES};
+    uint32_t joined[8];
+    uint64_t answer[DRUM_ANSWER];
+    expect(paired(hammers, 3, sounds, 4, enough, joined, answer) == DRUM_ACCEPTED && !memcmp(answer, counts, sizeof answer), "logs are paired");
+    expect(!memcmp(joined, lists, sizeof joined), "the three lists");
+    expect(paired(hammers, 3, sounds, 4, more, joined, answer) == DRUM_ACCEPTED && !memcmp(joined, kept, sizeof joined), "the rest is kept");
+    for (int k = 0; k < 3; k++) {
+        size_t places[3] = {enough[0], enough[1], enough[2]};
+        places[k]--;
+        expect(paired(hammers, 3, sounds, 4, places, joined, answer) == DRUM_REFUSED && !memcmp(answer, refused, sizeof answer), "65");
+    }
+    expect(paired(top, 1, zero, 1, most, joined, answer) == DRUM_ACCEPTED && answer[1] == 0 && answer[2] == 1 && answer[3] == 1, "no wrap");
+    expect(paired(zero, 0, zero, 0, none, joined, answer) == DRUM_ACCEPTED && answer[1] == 0, "empty logs");
+    expect(paired(zero, DRUM_TIMES, zero, DRUM_TIMES, most, joined, answer) == DRUM_ACCEPTED && answer[1] == DRUM_TIMES, "as many as may be");
+    expect(paired(zero, DRUM_TIMES, top, 1, most, joined, answer) == DRUM_ACCEPTED && answer[2] == DRUM_TIMES, "as many alone");
+    expect(paired(falling, 2, zero, 0, none, joined, answer) == DRUM_REFUSED && answer[1] == 63, "63 before 65");
+    expect(paired(falling, 2, zero, DRUM_TIMES + 1, more, joined, answer) == DRUM_REFUSED && answer[1] == 64, "64 before 63");
+}
+
 int main(void) {
     exact();
     short_answers();
@@ -180,6 +235,7 @@ int main(void) {
     damaged();
     most_steps();
     shares();
+    logs();
     if (!failed) printf("ok edges\n");
     return failed;
 }

@@ -71,6 +71,17 @@ static void *share(void *unused) {
     return unused;
 }
 
+static void *pair_logs(void *unused) {
+    static uint32_t hammers[DRUM_TIMES], sounds[DRUM_TIMES], pairs[DRUM_PAIRS_MAX], lone_hammers[DRUM_TIMES], lone_sounds[DRUM_TIMES];
+    for (uint32_t i = 0; i < DRUM_TIMES; i++) {
+        hammers[i] = 40 * i;
+        sounds[i] = 41 * i;
+    }
+    drum_pair_logs(hammers, DRUM_TIMES, sounds, DRUM_TIMES, pairs, DRUM_PAIRS_MAX, lone_hammers, DRUM_TIMES, lone_sounds, DRUM_TIMES,
+                   answer, DRUM_ANSWER);
+    return unused;
+}
+
 static size_t used(void *(*job)(void *)) {
     uint8_t *stack = mmap(NULL, STACK, PROT_READ | PROT_WRITE, MAP_PRIVATE | MAP_ANONYMOUS, -1, 0);
     pthread_attr_t attributes;
@@ -207,6 +218,7 @@ int main(void) {
         measure(texts[i].name, "drum_times", times);
     }
     measure("eight drums", "drum_share", share);
+    measure("two logs of 4,096 times", "drum_pair_logs", pair_logs);
     printf("most: %zu of DRUM_STACK's %d\n", most, DRUM_STACK);
     return most > DRUM_STACK;
 }

@@ -34,7 +34,7 @@ fn main() -> ExitCode {
     let arguments: Vec<String> = std::env::args().skip(1).collect();
     match &arguments[..] {
         [flag] if flag == "--words" => {
-            (1..=62).filter(|n| drum::words(*n) != "refused").for_each(|n| println!("{n}\t{}", drum::words(n)));
+            (1..=65).filter(|n| drum::words(*n) != "refused").for_each(|n| println!("{n}\t{}", drum::words(n)));
             ExitCode::SUCCESS
         }
         [path, ids @ ..] => match std::fs::read(path) {

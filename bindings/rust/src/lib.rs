@@ -24,8 +24,10 @@ pub const RECORD_MAX: usize = 1_048_576;
 pub const LINES_MAX: usize = 16_384;
 /// The most drums on one supply.
 pub const DRUMS: usize = 8;
+/// The most times of a log; a list of so many is enough for any two logs.
+pub const TIMES: usize = 4_096;
 
-/// Why a text or a record is refused. Lines and steps count from 1, and are 0 where none is named.
+/// Why a text, a record, a beat or a log is refused. Lines and steps count from 1, and are 0 where none is named.
 #[derive(Clone, Copy, Debug, PartialEq, Eq)]
 pub struct Refusal {
     pub number: u32,
@@ -62,6 +64,14 @@ pub struct Read {
 pub struct Programme {
     pub record: Vec<u8>,
     pub lines: Vec<u32>,
+}
+
+/// How many pairs two logs have, and how many of each are alone.
+#[derive(Clone, Copy, Debug, PartialEq, Eq)]
+pub struct Paired {
+    pub pairs: usize,
+    pub lone_hammers: usize,
+    pub lone_sounds: usize,
 }
 
 /// Reads the tree of a text into `work`, and gives its bytes.
@@ -155,6 +165,21 @@ pub fn share(wishes: &[u32], allowed: u32) -> Result<[u32; DRUMS], Refusal> {
     });
     numbers(told)?;
     Ok(strokes)
+}
+
+/// Pairs the hammers of a log with the sounds of another, by their times in milliseconds, at most 40 apart: the positions of each pair, the
+/// hammer's and the sound's, into `pairs`, those of the others into `lone_hammers` and `lone_sounds`. A refusal leaves zeros in all.
+pub fn pair_logs(
+    hammers: &[u32], sounds: &[u32], pairs: &mut [[u32; 2]], lone_hammers: &mut [u32], lone_sounds: &mut [u32],
+) -> Result<Paired, Refusal> {
+    let told = ask(|answer, places| unsafe {
+        raw::drum_pair_logs(
+            hammers.as_ptr(), hammers.len(), sounds.as_ptr(), sounds.len(), pairs.as_mut_ptr().cast(), 2 * pairs.len(),
+            lone_hammers.as_mut_ptr(), lone_hammers.len(), lone_sounds.as_mut_ptr(), lone_sounds.len(), answer, places,
+        )
+    });
+    let [pairs, lone_hammers, lone_sounds, _] = numbers(told)?;
+    Ok(Paired { pairs, lone_hammers, lone_sounds })
 }
 
 const OUT_OF_RANGE: Refusal = Refusal { number: 53, line: 0, step: 0 };

@@ -31,6 +31,10 @@ extern "C" {
     pub fn drum_share(
         wishes: *const u32, wishes_len: usize, allowed: u32, strokes: *mut u32, answer: *mut u64, answer_len: usize,
     ) -> u32;
+    pub fn drum_pair_logs(
+        hammers: *const u32, hammers_len: usize, sounds: *const u32, sounds_len: usize, pairs: *mut u32, pairs_len: usize,
+        lone_hammers: *mut u32, lone_hammers_len: usize, lone_sounds: *mut u32, lone_sounds_len: usize, answer: *mut u64, answer_len: usize,
+    ) -> u32;
 }
 
 /// Makes a call with five places for its answer: the numbers behind the first, or nothing, or the refusal.

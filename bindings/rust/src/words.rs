@@ -49,6 +49,9 @@ pub fn words(number: u32) -> &'static str {
         53 => "a step or a field is asked for that the record does not have",
         61 => "there is no drum on the supply, there are more than 8, or one wishes for more than 255 strokes",
         62 => "the supply allows fewer strokes than there are drums",
+        63 => "a time in a log is below the one before it",
+        64 => "a log has more than 4,096 times",
+        65 => "a list is too short for the pairs, the lone hammers or the lone sounds",
         _ => "refused",
     }
 }

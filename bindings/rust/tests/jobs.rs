@@ -1,6 +1,6 @@
 //! Each safe function once or more, on `examples/`.
 
-use drum::{Programme, Record, Refusal, Value};
+use drum::{Paired, Programme, Record, Refusal, Value};
 
 const NOON: &[u8] = include_bytes!("../../../examples/noon.yaml");
 const ROUNDS: &[u8] = include_bytes!("../../../examples/rounds.yaml");
@@ -124,6 +124,25 @@ fn shares() {
     assert_eq!(drum::share(&[1; 9], 8), Err(refusal(61, 0, 0)));
     assert_eq!(drum::share(&[256], 0), Err(refusal(61, 0, 0)));
     assert_eq!(drum::share(&[0; 8], 7), Err(refusal(62, 0, 0)));
+}
+
+#[test]
+fn logs() {
+    let (mut pairs, mut lone_hammers, mut lone_sounds) = ([[7; 2]; 3], [7; 2], [7; 3]);
+    let paired = drum::pair_logs(&[20, 200, 300], &[0, 39, 60, 260], &mut pairs, &mut lone_hammers, &mut lone_sounds);
+    assert_eq!(paired, Ok(Paired { pairs: 2, lone_hammers: 1, lone_sounds: 2 }));
+    assert_eq!((pairs, lone_hammers, lone_sounds), ([[0, 0], [2, 3], [7, 7]], [1, 7], [1, 2, 7]));
+    let refused = drum::pair_logs(&[20, 200, 300], &[0, 39, 60, 260], &mut pairs[1..2], &mut lone_hammers, &mut lone_sounds);
+    assert_eq!(refused, Err(refusal(65, 0, 0)));
+    assert_eq!((pairs, lone_hammers, lone_sounds), ([[0, 0], [0, 0], [7, 7]], [0; 2], [0; 3]));
+    assert_eq!(drum::pair_logs(&[1, 0], &[], &mut [], &mut [], &mut []), Err(refusal(63, 0, 0)));
+    assert_eq!(drum::pair_logs(&[1, 0], &[0; drum::TIMES + 1], &mut [], &mut [], &mut []), Err(refusal(64, 0, 0)));
+    let mut most = [[7; 2]; drum::TIMES];
+    let paired = drum::pair_logs(&[u32::MAX; drum::TIMES], &[u32::MAX - 40; drum::TIMES], &mut most, &mut [], &mut []);
+    assert_eq!(paired, Ok(Paired { pairs: drum::TIMES, lone_hammers: 0, lone_sounds: 0 }));
+    assert_eq!(most.last(), Some(&[4095; 2]));
+    let paired = drum::pair_logs(&[u32::MAX], &[0], &mut [], &mut lone_hammers, &mut lone_sounds);
+    assert_eq!(paired, Ok(Paired { pairs: 0, lone_hammers: 1, lone_sounds: 1 }));
 }
 
 #[test]

@@ -19,6 +19,9 @@ ofNone ns = 0 ∷ 0 ∷ 0 ∷ 0 ∷ 0 ∷ []
 unfoldable pub ofOne : ℕ → List ℕ
 ofOne n = 0 ∷ n ∷ 0 ∷ 0 ∷ 0 ∷ []
 
+unfoldable pub ofThree : ℕ × ℕ × ℕ → List ℕ
+ofThree (a, b, c) = 0 ∷ a ∷ b ∷ c ∷ 0 ∷ []
+
 unfoldable pub ofFour : ℕ × ℕ × ℕ × ℕ → List ℕ
 ofFour (a, b, c, d) = 0 ∷ a ∷ b ∷ c ∷ d ∷ []
 

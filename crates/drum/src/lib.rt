@@ -1,6 +1,6 @@
-// The jobs of document 01, and of P11 of document 02, for programs in C and Rust. What is lent comes as a pointer and a length, but for the
-// eight numbers of a share; every answer is five numbers, told as far as there are places for them, of which the first is the result too.
-// include/drum.h says this to C.
+// The jobs of document 01, and of P11 and P12 of document 02, for programs in C and Rust. What is lent comes as a pointer and a length, but
+// for the eight numbers of a share; every answer is five numbers, told as far as there are places for them, of which the first is the
+// result too. include/drum.h says this to C.
 ghost use mathlib.Core.Path.{_≡_};
 ghost use mathlib.Core.List.{[], _∷_};
 ghost use lib.ListN.{length, set};
@@ -11,11 +11,14 @@ ghost use Rattle.record.specs.Jobs as definition;
 ghost use Rattle.record.specs.Jobs.{lookupOf};
 ghost use Rattle.check_steps.specs.CheckSteps.{checkSteps};
 ghost use Rattle.lookups.specs.Lookups as lookup;
+ghost use Rattle.pair_logs.specs.PairLogs as logs;
+ghost use Rattle.pair_logs.specs.PairLogs.{pairLogs, countsOf, pairNumbers, hammerNumbers, soundNumbers};
 ghost use Rattle.share.specs.Share as shared;
 ghost use Rattle.share.specs.Share.{numbersOf};
-ghost use Rattle.drum.specs.Numbers.{numbers, ofNone, ofOne, ofFour, ofFound, firstOf, told, Tells};
+ghost use Rattle.drum.specs.Numbers.{numbers, ofNone, ofOne, ofThree, ofFour, ofFound, firstOf, told, Tells};
 use check_steps::StepsAnswer;
 use lookups::TimesAnswer;
+use pair_logs::PairAnswer;
 use record::Lookup;
 use record::RecordAnswer;
 use refusal::Refusal;
@@ -238,5 +241,38 @@ pub extern "C" fn drum_share(
     match outcome {
         ShareAnswer::Given => tell(answer, ACCEPTED, 0, 0, 0, 0),
         ShareAnswer::Refused(e) => tell_refusal(answer, e),
+    }
+}
+
+// A hammer log against a microphone log: how many pairs, lone hammers and lone sounds there are.
+#[no_mangle]
+pub extern "C" fn drum_pair_logs(
+    hammers: &[u32],
+    sounds: &[u32],
+    pairs: &mut [u32],
+    lone_hammers: &mut [u32],
+    lone_sounds: &mut [u32],
+    answer: &mut [u64],
+) -> u32
+    ensures result { λ r. ⌜ r ≡ firstOf (numbers ofThree (countsOf (pairLogs (now (hammers .entry)) (now (sounds .entry))
+        (now (pairs .entry)) (now («lone_hammers» .entry)) (now («lone_sounds» .entry))))) ⌝ }
+    ensures answer { λ r. ⌜ now (answer .exit) ≡ told (numbers ofThree (countsOf (pairLogs (now (hammers .entry)) (now (sounds .entry))
+        (now (pairs .entry)) (now («lone_hammers» .entry)) (now («lone_sounds» .entry))))) (now (answer .entry)) ⌝ }
+    ensures pairs { λ r. ⌜ now (pairs .exit) ≡ logs.output pairNumbers (pairLogs (now (hammers .entry)) (now (sounds .entry))
+        (now (pairs .entry)) (now («lone_hammers» .entry)) (now («lone_sounds» .entry))) (now (pairs .entry)) ⌝ }
+    ensures hammers { λ r. ⌜ now («lone_hammers» .exit) ≡ logs.output hammerNumbers (pairLogs (now (hammers .entry))
+        (now (sounds .entry)) (now (pairs .entry)) (now («lone_hammers» .entry)) (now («lone_sounds» .entry)))
+        (now («lone_hammers» .entry)) ⌝ }
+    ensures sounds { λ r. ⌜ now («lone_sounds» .exit) ≡ logs.output soundNumbers (pairLogs (now (hammers .entry))
+        (now (sounds .entry)) (now (pairs .entry)) (now («lone_hammers» .entry)) (now («lone_sounds» .entry)))
+        (now («lone_sounds» .entry)) ⌝ }
+{
+    match pair_logs::pair_logs(hammers, sounds, pairs, lone_hammers, lone_sounds) {
+        PairAnswer::Paired {
+            pairs: p,
+            lone_hammers: h,
+            lone_sounds: s,
+        } => tell(answer, ACCEPTED, p as u64, h as u64, s as u64, 0),
+        PairAnswer::Refused(e) => tell_refusal(answer, e),
     }
 }

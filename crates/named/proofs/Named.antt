@@ -9,7 +9,7 @@ use Rattle.refusal.proofs.Tools.{refused≢good}
 use Rattle.refusal.specs.declared.Refusal.{Refusal}
 use Rattle.refusal.specs.declared.Refusal.the-variants.{TextTooLong, NotUtf8, TooManyLines, TabInIndentation, DocumentMarker, LinesLeft, AnchorAliasOrTag, TextAfterValue, FlowMappingOpen, FlowSequenceOpen, EscapeCut, UnknownEscape, QuoteOpen, EmptyKey, ComplexKey}
 use Rattle.refusal.specs.declared.Refusal.the-variants.{KeyNotScalar, KeyWithoutColon, KeyTwice, StuckSequence, TooDeep, DocumentNotMapping, UnknownTopKey, OtherSchema, NoSchema, NoName, TagsNotSequence, FailOnNotSequence, DefaultsNotMapping, UnknownDefault, DefaultNotScalar}
-use Rattle.refusal.specs.declared.Refusal.the-variants.{StepsNotSequence, StepNotMapping, ExpectNotMapping, NotOneCommand, ExpectBesideBuiltIn, UnknownCommand, RepeatWithoutSteps, TimesNotPositive, TimesTooLarge, Malformed, WorkTooShort, TooFewLinePlaces, RecordTooLong, OutOfRange, WishesOutOfRange, SupplyTooSmall}
+use Rattle.refusal.specs.declared.Refusal.the-variants.{StepsNotSequence, StepNotMapping, ExpectNotMapping, NotOneCommand, ExpectBesideBuiltIn, UnknownCommand, RepeatWithoutSteps, TimesNotPositive, TimesTooLarge, Malformed, WorkTooShort, TooFewLinePlaces, RecordTooLong, OutOfRange, WishesOutOfRange, SupplyTooSmall, LogFalls, LogTooLong, ListTooShort}
 use Rattle.tree.specs.Tree as trees
 use Rattle.tree.specs.declared.TreeAnswer.{TreeAnswer}
 use Rattle.tree.specs.declared.TreeAnswer.the-variants as treeAnswer
@@ -99,6 +99,9 @@ zeros RecordTooLong = nothing-named 52 refl
 zeros OutOfRange = nothing-named 53 refl
 zeros WishesOutOfRange = of-another 61 refl
 zeros SupplyTooSmall = of-another 62 refl
+zeros LogFalls = of-another 63 refl
+zeros LogTooLong = of-another 64 refl
+zeros ListTooShort = of-another 65 refl
 
 -- a refusal that is answered, and counts from 1
 refusal-names : {A : Type 0} (e : Refusal) → Counts {A = A} (refusal e) → Names {A = A} (refusal e)

@@ -1,5 +1,5 @@
--- Document 01, "Answers", and P11 of document 02: the number, the line and the step that an answer names of each refusal. Uses Base of this
--- crate. Assumes nothing.
+-- Document 01, "Answers", P11 and P12 of document 02: the number, the line and the step that an answer names of each refusal. Uses Base of
+-- this crate. Assumes nothing.
 use Prim.Native.Nat.{ℕ}
 use Rattle.refusal.specs.Base.{Answer, refused}
 use Rattle.refusal.specs.declared.Told.{Told}
@@ -11,7 +11,7 @@ use Rattle.refusal.specs.declared.Refusal.the-variants.{UnknownTopKey, O
 use Rattle.refusal.specs.declared.Refusal.the-variants.{DefaultsNotMapping, UnknownDefault, DefaultNotScalar, StepsNotSequence, StepNotMapping}
 use Rattle.refusal.specs.declared.Refusal.the-variants.{ExpectNotMapping, NotOneCommand, ExpectBesideBuiltIn, UnknownCommand, RepeatWithoutSteps}
 use Rattle.refusal.specs.declared.Refusal.the-variants.{TimesNotPositive, TimesTooLarge, Malformed, WorkTooShort, TooFewLinePlaces, RecordTooLong}
-use Rattle.refusal.specs.declared.Refusal.the-variants.{OutOfRange, WishesOutOfRange, SupplyTooSmall}
+use Rattle.refusal.specs.declared.Refusal.the-variants.{OutOfRange, WishesOutOfRange, SupplyTooSmall, LogFalls, LogTooLong, ListTooShort}
 
 abbrev pub told : ℕ → ℕ → ℕ → Told
 told n l s = record { number = n; line = l; step = s }
@@ -63,6 +63,9 @@ toldOf RecordTooLong = told 52 0 0
 toldOf OutOfRange = told 53 0 0
 toldOf WishesOutOfRange = told 61 0 0
 toldOf SupplyTooSmall = told 62 0 0
+toldOf LogFalls = told 63 0 0
+toldOf LogTooLong = told 64 0 0
+toldOf ListTooShort = told 65 0 0
 
 -- a refusal as the answer of a definition
 abbrev pub refusal : {A : Type 0} → Refusal → Answer A

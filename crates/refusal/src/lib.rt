@@ -1,4 +1,4 @@
-// Why a text, a record, a lookup or a beat is refused: a case for each number of document 01, and of the requests of document 02,
+// Why a text, a record, a lookup, a beat or a log is refused: a case for each number of document 01, and of the requests of document 02,
 // holding the line and the step that its answer names. Both count from 1; a line is 0 where a step has none.
 ghost use mathlib.Core.Path.{_≡_};
 ghost use Rattle.refusal.specs.Told.{told, toldOf};
@@ -50,6 +50,9 @@ pub enum Refusal {
     OutOfRange,
     WishesOutOfRange,
     SupplyTooSmall,
+    LogFalls,
+    LogTooLong,
+    ListTooShort,
 }
 
 // What an answer names of a refusal, 0 where it names none.
@@ -116,6 +119,9 @@ impl Refusal {
             Refusal::OutOfRange => tell(53, 0, 0),
             Refusal::WishesOutOfRange => tell(61, 0, 0),
             Refusal::SupplyTooSmall => tell(62, 0, 0),
+            Refusal::LogFalls => tell(63, 0, 0),
+            Refusal::LogTooLong => tell(64, 0, 0),
+            Refusal::ListTooShort => tell(65, 0, 0),
         }
     }
 }

@@ -2,6 +2,7 @@
 // stdout, comes from Rust; the limits that the Rust lacks, from document 01.
 mod entries;
 mod items;
+mod logs;
 mod print;
 mod records;
 mod scenarios;
@@ -17,6 +18,7 @@ use crate::section::HEADERS;
 use crate::section::ITEMS;
 use crate::section::LEAST_WORK;
 use crate::section::LINES;
+use crate::section::LOGS;
 use crate::section::LONG_RECORD;
 use crate::section::LOOKUPS;
 use crate::section::PARTS;
@@ -49,6 +51,7 @@ fn answer(section: Section, text: &[u8]) {
         RECORD_CHECKS => steps::print_record_check(text),
         LOOKUPS => steps::print_lookups(text),
         SHARES => shares::print_shares(text),
+        LOGS => logs::print_logs(text),
         SCENARIOS | SCENARIO_TREES | SCENARIO_SIZES => scenarios::print_scenario(section, text),
         _ => {}
     }

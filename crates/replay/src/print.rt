@@ -62,7 +62,7 @@ pub(crate) fn print_refusal(e: Refusal) {
 }
 
 // Something that was lent is not as it must be.
-pub(crate) fn print_mark() {
+fn print_mark() {
     print(b" other");
 }
 
@@ -70,6 +70,15 @@ pub(crate) fn print_mark() {
 pub(crate) fn print_other(bytes: &[u8], from: usize, b: u8) {
     for i in from..bytes.len() {
         if bytes[i] != b {
+            return print_mark();
+        }
+    }
+}
+
+// A mark, where a number from this place on is another one.
+pub(crate) fn print_other_numbers(numbers: &[u32], from: usize, n: u32) {
+    for i in from..numbers.len() {
+        if numbers[i] != n {
             return print_mark();
         }
     }

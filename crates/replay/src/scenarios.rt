@@ -1,27 +1,18 @@
 // What is read of a scenario.
-ghost use Prim.Native.Nat.{_≤_};
 use crate::print::print;
 use crate::print::print_front;
-use crate::print::print_mark;
 use crate::print::print_numbers;
 use crate::print::print_ok;
 use crate::print::print_other;
+use crate::print::print_other_numbers;
 use crate::print::print_refusal;
 use crate::print::print_spaced;
 use crate::section::SCENARIO_SIZES;
 use crate::section::SCENARIO_TREES;
 use crate::section::Section;
+use crate::stream::least;
 use item::LIMIT;
 use scenario::ScenarioAnswer;
-
-// A mark, where a line from this place on is another one.
-fn print_other_lines(lines: &[u32], from: usize, n: u32) {
-    for i in from..lines.len() {
-        if lines[i] != n {
-            return print_mark();
-        }
-    }
-}
 
 fn print_tree(work: &[u8], bytes: usize) {
     print(b" tree");
@@ -61,13 +52,13 @@ fn print_answer(kind: usize, answer: ScenarioAnswer, work: &[u8], record: &[u8],
             }
             print_other(work, tree_bytes, 7);
             print_other(record, record_bytes, 7);
-            print_other_lines(lines, steps, 7);
+            print_other_numbers(lines, steps, 7);
         }
         ScenarioAnswer::Refused(e) => {
             print_refusal(e);
             print_other(work, 0, 0);
             print_other(record, 0, 0);
-            print_other_lines(lines, 0, 0);
+            print_other_numbers(lines, 0, 0);
         }
     }
 }
@@ -75,12 +66,6 @@ fn print_answer(kind: usize, answer: ScenarioAnswer, work: &[u8], record: &[u8],
 fn print_in(kind: usize, text: &[u8], work: &mut [u8], record: &mut [u8], lines: &mut [u32]) {
     let answer = scenario::read_scenario(text, work, record, lines);
     print_answer(kind, answer, work, record, lines);
-}
-
-fn least(a: usize, b: usize) -> usize
-    ensures { λ r. ⌜ r ≤ b ⌝ }
-{
-    if a < b { a } else { b }
 }
 
 // As much is lent as the section says, or all.

@@ -36,6 +36,9 @@ pub(crate) const RECORD_CHECKS: usize = 14;
 pub(crate) const LOOKUPS: usize = 15;
 // What drums on one supply get in a beat. A text has a count of wishes and what the supply allows in front, then the wishes.
 pub(crate) const SHARES: usize = 16;
+// A hammer log against a microphone log. A text has five numbers in front, how many hammers and sounds there are and the places of the
+// three lists, then the times of the hammers and of the sounds.
+pub(crate) const LOGS: usize = 17;
 
 pub(crate) struct Section {
     pub(crate) kind: usize,

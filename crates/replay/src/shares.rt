@@ -25,7 +25,7 @@ fn print_answer(shares: Shares) {
 fn print_with_wishes(text: &[u8], wishes: &mut [u32])
     requires { ⌜ length (now wishes) ≤ 64 ⌝ }
 {
-    put_numbers(text, wishes);
+    put_numbers(text, 8, wishes);
     print_answer(share(wishes, number_at(text, 4) as u32));
 }
 

@@ -137,7 +137,7 @@ fn print_steps(bytes: &[u8], lines: &[u32], names: &[u8]) {
 fn print_with_lines(text: &[u8], lines: &mut [u32], start: usize, end: usize)
     requires { ⌜ length (now lines) ≤ 64 ⌝ }
 {
-    put_numbers(text, lines);
+    put_numbers(text, 8, lines);
     print_steps(part(text, start, end), lines, part(text, end, text.len()));
 }
 

@@ -30,12 +30,18 @@ pub(crate) fn number_at(bytes: &[u8], at: usize) -> usize
     pair(bytes[at], bytes[at + 1]) + 65536 * pair(bytes[at + 2], bytes[at + 3])
 }
 
-// As many numbers as there are places, behind the two at the front of a text.
-pub(crate) fn put_numbers(text: &[u8], numbers: &mut [u32])
-    requires { ⌜ length (now numbers) ≤ 64 ⌝ }
+pub(crate) fn least(a: usize, b: usize) -> usize
+    ensures { λ r. ⌜ r ≤ b ⌝ }
+{
+    if a < b { a } else { b }
+}
+
+// As many numbers as there are places, from a place of a text on.
+pub(crate) fn put_numbers(text: &[u8], from: usize, numbers: &mut [u32])
+    requires { ⌜ (from ≤ 65536) × (length (now numbers) ≤ 65536) ⌝ }
 {
     for i in 0..numbers.len() {
-        numbers[i] = number_at(text, 8 + 4 * i) as u32;
+        numbers[i] = number_at(text, from + 4 * i) as u32;
     }
 }
 

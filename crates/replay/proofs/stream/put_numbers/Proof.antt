@@ -7,10 +7,10 @@ use Rattle.replay.proofs.stream.put_numbers.Statement.{statement}
 use Rattle.replay.proofs.stream.put_numbers.Tie as tie
 
 abbrev Inv-loop : tie.InvT-loop
-Inv-loop text numbers₀ i₀ i-end numbers i = (i-end ≤ length numbers) × (length numbers ≡ length numbers₀)
+Inv-loop text from numbers₀ i₀ i-end numbers i = (i-end ≤ length numbers) × (length numbers ≡ length numbers₀)
 
 abbrev μ-loop : tie.MeasureT-loop
-μ-loop text numbers₀ i₀ i-end numbers i = i-end - i
+μ-loop text from numbers₀ i₀ i-end numbers i = i-end - i
 
 pub put-numbers-spec : {M : Type 1} → statement M
 put-numbers-spec =

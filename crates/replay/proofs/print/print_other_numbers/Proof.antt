@@ -2,17 +2,17 @@
 use borrow.Author.Needs.{needs}
 use Prim.Native.Nat.{_≤_, _-_}
 use lib.ListN.{length}
-use Rattle.replay.proofs.scenarios.print_other_lines.Statement.{statement}
-use Rattle.replay.proofs.scenarios.print_other_lines.Tie as tie
+use Rattle.replay.proofs.print.print_other_numbers.Statement.{statement}
+use Rattle.replay.proofs.print.print_other_numbers.Tie as tie
 
 abbrev Inv-loop : tie.InvT-loop
-Inv-loop lines from n i₀ i-end i = i-end ≤ length lines
+Inv-loop numbers from n i₀ i-end i = i-end ≤ length numbers
 
 abbrev μ-loop : tie.MeasureT-loop
-μ-loop lines from n i₀ i-end i = i-end - i
+μ-loop numbers from n i₀ i-end i = i-end - i
 
-pub print-other-lines-spec : {M : Type 1} → statement M
-print-other-lines-spec =
+pub print-other-numbers-spec : {M : Type 1} → statement M
+print-other-numbers-spec =
     tie.close
     (tie.spec
     Inv-loop

@@ -1,0 +1,2 @@
+pub mod PairLogs
+pub mod Contract
