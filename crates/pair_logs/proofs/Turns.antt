@@ -5,7 +5,7 @@ use Prim.Native.Nat.{ℕ, zero, suc, _+_, _-_, _≤_, _<_}
 use native.Mathlib.Numerals.{add-one}
 use native.Mathlib.Omega.{arith}
 use mathlib.Core.List.{List, [], _∷_}
-use mathlib.Core.Bool.{Bool, true, false, _&&_}
+use mathlib.Core.Bool.{Bool, true, false, _&&_, and-comm}
 use lib.Dec.{leb, ltb}
 use lib.ListN.{length, getD, drop, set, length-drop, drop-of-length-le}
 use lib.Seq.{sets, length-sets, drop-cons}
@@ -32,11 +32,7 @@ near-after h s o = rw (le-leb h (s + 40) (omega arith)) (go (leb s (h + 40)) ref
 
 pub near-before : (h s : ℕ) → s < h → leb (h - s) 40 ≡ near h s
 unfolding near
-near-before h s o = rw (le-leb s (h + 40) (omega arith)) (go (leb h (s + 40)) refl)
-  where
-    go : (t : Bool) → leb h (s + 40) ≡ t → leb (h - s) 40 ≡ t && true
-    go true e = le-leb (h - s) 40 (omega (arith, leb-true h (s + 40) e))
-    go false e = lt-leb (h - s) 40 (omega (arith, leb-false h (s + 40) e))
+near-before h s o = near-after s h (omega arith) ∙ and-comm (leb s (h + 40)) (leb h (s + 40))
 
 -- ---- what a turn places
 

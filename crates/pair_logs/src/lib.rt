@@ -138,7 +138,8 @@ fn walk(
     }
 }
 
-// The times of a log from a position on, all alone: whether none is below the one before it. So many before them are in pairs.
+// What is left of a log, all alone, written behind the lone ones so far, which are those before it that are not in pairs: whether no time is
+// below the one before it.
 fn rest(times: &[u32], from: usize, before: u32, paired: usize, list: &mut [u32]) -> bool
     requires { ⌜ (paired ≤ from) × (from ≤ length (now times)) × (length (now times) ≤ 4096) ⌝ }
     ensures { λ r. ⌜ Rests (now (times .entry)) from before paired (now (list .entry)) (now (list .exit)) r ⌝ }
