@@ -8,7 +8,7 @@ use lib.ListN.{length, drop, replicate}
 use lib.Dec.{leb}
 use lib.Seq.{length-sets, sets-eq}
 use borrow.Author.Tests.{le-leb, lt-leb}
-use Rattle.refusal.specs.Base.{Answer, good, refused, _>>=_, _>>_, ensure}
+use Rattle.refusal.specs.Base.{Answer, refused, _>>=_, _>>_, ensure}
 use Rattle.pair_logs.specs.PairLogs.{Pair, Pairing, pairing, neverFalls, flat, listed, pairLogs, pairNumbers, hammerNumbers, soundNumbers, output, countsOf}
 use Rattle.pair_logs.specs.Contract.{Written, WrittenAll, Agrees}
 use Rattle.pair_logs.specs.declared.PairAnswer.the-variants.{Paired}

@@ -6,7 +6,7 @@ use native.Mathlib.Numerals.{add-one}
 use native.Mathlib.Omega.{arith}
 use mathlib.Core.List.{List, [], _∷_}
 use mathlib.Core.Bool.{Bool, true, false, _&&_, and-comm}
-use lib.Dec.{leb, ltb}
+use lib.Dec.{leb}
 use lib.ListN.{length, getD, drop, set, length-drop, drop-of-length-le}
 use lib.Seq.{sets, length-sets, drop-cons}
 use borrow.Author.Tests.{leb-true, leb-false, le-leb, lt-leb, lt-ltb, le-ltb}
@@ -75,7 +75,7 @@ module _ (hammers sounds : List ℕ) (i j : ℕ) where
   at-end h s = rw (drop-of-length-le hammers {i = i} h, drop-of-length-le sounds {i = j} s)
 
   -- behind the end of one log the rest of the other is alone
-  pub at-rest : (length hammers ≤ i) ⊎ (length sounds ≤ j)
+  at-rest : (length hammers ≤ i) ⊎ (length sounds ≤ j)
       → walkAt hammers sounds i j ≡ record { pairs = []; loneHammers = range i (length hammers - i); loneSounds = range j (length sounds - j) }
   unfolding walkAt walk range
   at-rest (inl h) =
@@ -92,19 +92,19 @@ module _ (times : List ℕ) (i before : ℕ) where
   unfolding neverFalls
   rise-next h = rw (add-one, drop-cons times i 0 h)
 
-  pub rise-on : i < length times → before ≤ getD times i 0 → neverFalls before (drop i times) ≡ neverFalls (getD times i 0) (drop (i + 1) times)
+  rise-on : i < length times → before ≤ getD times i 0 → neverFalls before (drop i times) ≡ neverFalls (getD times i 0) (drop (i + 1) times)
   rise-on h o = rise-next h ∙ rw (le-leb before (getD times i 0) o)
 
-  pub rise-not : i < length times → getD times i 0 < before → neverFalls before (drop i times) ≡ false
+  rise-not : i < length times → getD times i 0 < before → neverFalls before (drop i times) ≡ false
   rise-not h o = rise-next h ∙ rw (lt-leb before (getD times i 0) o)
 
-  pub rise-end : length times ≤ i → neverFalls before (drop i times) ≡ true
+  rise-end : length times ≤ i → neverFalls before (drop i times) ≡ true
   unfolding neverFalls
   rise-end h = rw (drop-of-length-le times {i = i} h)
 
 -- ---- a list that is written number by number
 
-pub puts-more : {all old new new′ left : List ℕ} {at at′ : ℕ} (v : ℕ) → Puts all old new at (v ∷ left) → new′ ≡ set new at v → at′ ≡ at + 1 → Puts all old new′ at′ left
+puts-more : {all old new new′ left : List ℕ} {at at′ : ℕ} (v : ℕ) → Puts all old new at (v ∷ left) → new′ ≡ set new at v → at′ ≡ at + 1 → Puts all old new′ at′ left
 puts-more {at = at} v p e q = record { rest = rw (e, q, add-one at) (p .rest); many = omega (arith, p .many) }
 
 puts-at : {all old new left : List ℕ} {at at′ : ℕ} → at′ ≡ at → Puts all old new at left → Puts all old new at′ left
