@@ -1,5 +1,7 @@
 // Blocks (document 01, section 3): the value that lines are, written into the work bytes as it is read. Lines are read from a table
 // of entries, of which the first `count` count; `levels` more collections may be opened; of `out` the first `at` bytes are used.
+#![tactic(auto)]
+
 ghost use Rattle.std.specs.Prelude.{◌≡◌, ◌&&◌, ◌+◌, ◌-◌, ◌≤◌, ◌<◌, suc, ◌^◌, length, take, drop};
 ghost use Rattle.std.proofs.Math.Option.{some};
 ghost use Rattle.item.specs.Tree as items;

@@ -1,5 +1,7 @@
 // The check of a record's steps (document 01, section 6): whether each command is built in or among the names that the caller lends, and
 // whether each `repeat` holds steps. A record and a name list come from outside: any bytes are taken and checked, and nothing is written.
+#![tactic(auto)]
+
 ghost use Rattle.std.specs.Prelude.{◌≡◌, List, ℕ, ◌+◌, ◌≤◌, ◌^◌, length, drop};
 ghost use Rattle.std.proofs.Math.Option.{some};
 ghost use Rattle.refusal.specs.Base.{one_of};

@@ -54,15 +54,17 @@ module _ (text work new : List ℕ) where
 -- ---- a scenario
 
 -- what `read_scenario` ensures, clause by clause
-abbrev Ensured : (text work tree room bytes places lines : List ℕ) → ScenarioAnswer → Type 0
-Ensured text work tree room bytes places lines r =
-    (answer_of r ≡ sizes_of (scenario_of work room places text))
-    × ((tree ≡ output tree_bytes (scenario_of work room places text) work)
-    × ((bytes ≡ output record_bytes (scenario_of work room places text) room) × (lines ≡ output step_numbers (scenario_of work room places text) places)))
+abbrev Ensured : (text work tree_left room record_left places lines_left : List ℕ) → ScenarioAnswer → Type 0
+Ensured text work tree_left room record_left places lines_left r = record {
+  answer : answer_of r ≡ sizes_of (scenario_of work room places text);
+  tree : tree_left ≡ output tree_bytes (scenario_of work room places text) work;
+  bytes : record_left ≡ output record_bytes (scenario_of work room places text) room;
+  numbers : lines_left ≡ output step_numbers (scenario_of work room places text) places;
+}
 
 module _ (text work room places : List ℕ) {tree bytes lines : List ℕ} (r : ScenarioAnswer) (p : Ensured text work tree room bytes places lines r) where
   pub scenario-ends : ScenarioEnds text work tree room bytes places lines r
-  scenario-ends = ends text work tree room bytes places lines r (record { answer = p.0; tree_left = p.1.0; record_left = p.1.1.0; lines_left = p.1.1.1 })
+  scenario-ends = ends text work tree room bytes places lines r (record { answer = p.answer; tree_left = p.tree; record_left = p.bytes; lines_left = p.numbers })
 
   pub accepted-as : {t b l n : ℕ} → r ≡ Read t b l n → ScenarioTold text work tree room bytes places lines t b l n
   accepted-as e = subst (ScenarioEnds text work tree room bytes places lines) e scenario-ends

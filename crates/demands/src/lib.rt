@@ -1,5 +1,7 @@
 // What a caller can count on (document 01, demands 1 to 3). Each function calls the public jobs as a board does, on whatever it is lent,
 // and its contract is a demand: it is proved from the contracts of the jobs alone.
+#![tactic(auto)]
+
 ghost use Rattle.std.specs.Prelude.{◌≡◌, true};
 ghost use Rattle.meaning.specs.Record.{fields};
 ghost use Rattle.record.specs.Jobs as jobs;
@@ -186,7 +188,7 @@ pub fn reads_alike(
 }
 
 // The two lookups: of a field by its place, of a step by its number.
-#[derive(Drop)]
+#[derive(Clone, Copy)]
 enum By {
     Place,
     Number,

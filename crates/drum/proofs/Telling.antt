@@ -21,10 +21,10 @@ pub tells : {A : Type 0} (f : A → List ℕ) {x y : Answer A} {old new : List �
 tells f {old = old} {new = new} {r = r} e t = subst (λ (z : Answer _). Tells (numbers f z) old new r) e t
 
 -- and meets both promises of a job
-pub told-as : {A : Type 0} (f : A → List ℕ) {x y : Answer A} {old new : List ℕ} {r : ℕ} → x ≡ y → Tells (numbers f x) old new r → (r ≡ first_of (numbers f y)) × (new ≡ told (numbers f y) old)
-told-as f e t = let u = tells f e t in (u.result, u.places)
+pub told-as : {A : Type 0} (f : A → List ℕ) {x y : Answer A} {old new : List ℕ} {r : ℕ} → x ≡ y → Tells (numbers f x) old new r → record { result : r ≡ first_of (numbers f y); answer : new ≡ told (numbers f y) old }
+told-as f e t = let u = tells f e t in record { result = u.result; answer = u.places }
 
 -- case by case of what the job answered
 pub told-case : {X A : Type 0} (answer_of : X → Answer A) (f : A → List ℕ) {v x : X} {y : Answer A} {old new : List ℕ} {r : ℕ} → v ≡ x → answer_of v ≡ y → Tells (numbers f (answer_of x)) old new r
-    → (r ≡ first_of (numbers f y)) × (new ≡ told (numbers f y) old)
+    → record { result : r ≡ first_of (numbers f y); answer : new ≡ told (numbers f y) old }
 told-case answer_of f e p t = told-as f (ap answer_of (sym e) ∙ p) t

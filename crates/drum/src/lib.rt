@@ -1,6 +1,8 @@
 // The jobs of document 01, and of P11 and P12 of document 02, for programs in C and Rust. What is lent comes as a pointer and a length, but
 // for the eight numbers of a share; every answer is five numbers, told as far as there are places for them, of which the first is the
 // result too. include/drum.h says this to C.
+#![tactic(auto)]
+
 ghost use Rattle.std.specs.Prelude.{◌≡◌, [], ◌∷◌, length, set};
 ghost use Rattle.refusal.specs.Told.{told_of};
 ghost use Rattle.tree.specs.Tree.{tree, size_of, left};
@@ -77,8 +79,7 @@ fn tell_lookup(answer: &mut [u64], found: Lookup) -> u32
 }
 
 // The tree of a text: its bytes.
-#[unsafe(no_mangle)]
-pub extern "C" fn drum_read_tree(text: &[u8], work: &mut [u8], answer: &mut [u64]) -> u32
+pub fn drum_read_tree(text: &[u8], work: &mut [u8], answer: &mut [u64]) -> u32
     ensures result { result ≡ first_of (numbers of_one (size_of (tree (length work.old) text.now))) }
     ensures answer { answer.new ≡ told (numbers of_one (size_of (tree (length work.old) text.now)))
         answer.old }
@@ -91,8 +92,7 @@ pub extern "C" fn drum_read_tree(text: &[u8], work: &mut [u8], answer: &mut [u64
 }
 
 // The scenario of a text: the bytes of its tree, of its record and of its step lines, and how many steps there are.
-#[unsafe(no_mangle)]
-pub extern "C" fn drum_read_scenario(
+pub fn drum_read_scenario(
     text: &[u8],
     work: &mut [u8],
     record: &mut [u8],
@@ -129,8 +129,7 @@ pub extern "C" fn drum_read_scenario(
 }
 
 // Whether the bytes are a record: its steps.
-#[unsafe(no_mangle)]
-pub extern "C" fn drum_check_record(record: &[u8], answer: &mut [u64]) -> u32
+pub fn drum_check_record(record: &[u8], answer: &mut [u64]) -> u32
     ensures result { result ≡ first_of (numbers of_one (definition.check_record «record».now)) }
     ensures answer { answer.new ≡ told (numbers of_one (definition.check_record «record».now))
         answer.old }
@@ -143,13 +142,7 @@ pub extern "C" fn drum_check_record(record: &[u8], answer: &mut [u64]) -> u32
 
 // Whether the drum has the commands of a record's steps; `names` is a list of those that are not built in. A step beyond the lines has
 // none. The record's steps.
-#[unsafe(no_mangle)]
-pub extern "C" fn drum_check_steps(
-    record: &[u8],
-    lines: &[u32],
-    names: &[u8],
-    answer: &mut [u64],
-) -> u32
+pub fn drum_check_steps(record: &[u8], lines: &[u32], names: &[u8], answer: &mut [u64]) -> u32
     ensures result { result ≡ first_of (numbers of_one (check_steps «record».now lines.now
         names.now)) }
     ensures answer { answer.new ≡ told (numbers of_one (check_steps «record».now lines.now
@@ -162,8 +155,7 @@ pub extern "C" fn drum_check_steps(
 }
 
 // The field at this place, from 1 to 8: where its item begins and ends in the record.
-#[unsafe(no_mangle)]
-pub extern "C" fn drum_field(record: &[u8], place: usize, answer: &mut [u64]) -> u32
+pub fn drum_field(record: &[u8], place: usize, answer: &mut [u64]) -> u32
     ensures result { result ≡ first_of (numbers of_found (definition.field «record».now place)) }
     ensures answer { answer.new ≡ told (numbers of_found (definition.field «record».now place))
         answer.old }
@@ -172,8 +164,7 @@ pub extern "C" fn drum_field(record: &[u8], place: usize, answer: &mut [u64]) ->
 }
 
 // The step with this number, from 1 on: likewise.
-#[unsafe(no_mangle)]
-pub extern "C" fn drum_step(record: &[u8], number: usize, answer: &mut [u64]) -> u32
+pub fn drum_step(record: &[u8], number: usize, answer: &mut [u64]) -> u32
     ensures result { result ≡ first_of (numbers of_found (definition.step «record».now number)) }
     ensures answer { answer.new ≡ told (numbers of_found (definition.step «record».now number))
         answer.old }
@@ -182,8 +173,7 @@ pub extern "C" fn drum_step(record: &[u8], number: usize, answer: &mut [u64]) ->
 }
 
 // The first step with this id: likewise.
-#[unsafe(no_mangle)]
-pub extern "C" fn drum_step_by_id(record: &[u8], id: &[u8], answer: &mut [u64]) -> u32
+pub fn drum_step_by_id(record: &[u8], id: &[u8], answer: &mut [u64]) -> u32
     ensures result { result ≡ first_of (numbers of_found (lookup.step_by_id «record».now id.now)) }
     ensures answer { answer.new ≡ told (numbers of_found (lookup.step_by_id «record».now id.now))
         answer.old }
@@ -192,13 +182,7 @@ pub extern "C" fn drum_step_by_id(record: &[u8], id: &[u8], answer: &mut [u64]) 
 }
 
 // The value beside a key, in the mapping beside the command of the step with this number: likewise.
-#[unsafe(no_mangle)]
-pub extern "C" fn drum_value_by_key(
-    record: &[u8],
-    number: usize,
-    key: &[u8],
-    answer: &mut [u64],
-) -> u32
+pub fn drum_value_by_key(record: &[u8], number: usize, key: &[u8], answer: &mut [u64]) -> u32
     ensures result { result ≡ first_of (numbers of_found (lookup.value_by_key «record».now number key.now)) }
     ensures answer { answer.new ≡ told (numbers of_found (lookup.value_by_key «record».now number
         key.now)) answer.old }
@@ -207,8 +191,7 @@ pub extern "C" fn drum_value_by_key(
 }
 
 // How often the step with this number is repeated.
-#[unsafe(no_mangle)]
-pub extern "C" fn drum_times(record: &[u8], number: usize, answer: &mut [u64]) -> u32
+pub fn drum_times(record: &[u8], number: usize, answer: &mut [u64]) -> u32
     ensures result { result ≡ first_of (numbers of_one (lookup.times «record».now number)) }
     ensures answer { answer.new ≡ told (numbers of_one (lookup.times «record».now number))
         answer.old }
@@ -220,13 +203,7 @@ pub extern "C" fn drum_times(record: &[u8], number: usize, answer: &mut [u64]) -
 }
 
 // What each of several drums on one supply gets in a beat, eight numbers in their order; the answer has no numbers.
-#[unsafe(no_mangle)]
-pub extern "C" fn drum_share(
-    wishes: &[u32],
-    allowed: u32,
-    strokes: &mut [u32; 8],
-    answer: &mut [u64],
-) -> u32
+pub fn drum_share(wishes: &[u32], allowed: u32, strokes: &mut [u32; 8], answer: &mut [u64]) -> u32
     ensures result { result ≡ first_of (numbers of_none (shared.share wishes.now allowed)) }
     ensures answer { answer.new ≡ told (numbers of_none (shared.share wishes.now allowed))
         answer.old }
@@ -243,8 +220,7 @@ pub extern "C" fn drum_share(
 }
 
 // A hammer log against a microphone log: how many pairs, lone hammers and lone sounds there are.
-#[unsafe(no_mangle)]
-pub extern "C" fn drum_pair_logs(
+pub fn drum_pair_logs(
     hammers: &[u32],
     sounds: &[u32],
     pairs: &mut [u32],

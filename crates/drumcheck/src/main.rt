@@ -1,123 +1,129 @@
 // Checks scenario texts as editors and linters do: for each file that an argument names it prints `FILE: ok, N steps`, or the file, the
 // line if there is one, the refusal's number and words, and the step if there is one. A file that cannot be read is named on standard
 // error with the reason, and the rest are still checked. It lends as much as drumread, so it accepts the same texts.
+#![tactic(auto)]
+
 mod words;
 
-use libc::{STDERR_FILENO, STDOUT_FILENO};
 use refusal::Refusal;
 use scenario::ScenarioAnswer;
+use std::env::FillError;
+use std::fs::File;
+use std::io;
+use std::io::{Read, Write};
+use std::rt::{Env, Files};
 use words::print_words;
 
-fn print(text: &[u8]) {
-    io::write_all(STDOUT_FILENO, text);
+fn print(rt: &impl Print, text: &[u8]) -> io::Result<()> {
+    io::writer(rt).write_all(text)
 }
 
-fn print_number(n: u64) {
-    io::print_decimal(STDOUT_FILENO, n);
-}
-
-fn print_refusal(path: &[u8], e: Refusal) {
+fn print_refusal(rt: &impl Print, path: &str, e: Refusal) -> io::Result<()> {
     let told = e.told();
-    print(path);
-    if told.line > 0 {
-        print(b":");
-        print_number(told.line as u64);
+    let number = told.number;
+    let line = told.line;
+    let step = told.step;
+    print!(rt; "{path}")?;
+    if line > 0 {
+        print!(rt; ":{line}")?;
     }
-    print(b": ");
-    print_number(told.number as u64);
-    print(b" ");
-    print_words(told.number);
-    if told.step > 0 {
-        print(b" (step ");
-        print_number(told.step as u64);
-        print(b")");
+    print!(rt; ": {number} ")?;
+    print_words(rt, number)?;
+    if step > 0 {
+        print!(rt; " (step {step})")?;
     }
-    print(b"\n");
+    print(rt, b"\n")
 }
 
-fn print_ok(path: &[u8], steps: usize) {
-    print(path);
-    print(b": ok, ");
-    print_number(steps as u64);
+fn print_ok(rt: &impl Print, path: &str, steps: usize) -> io::Result<()> {
+    print!(rt; "{path}: ok, {steps}")?;
     if steps == 1 {
-        print(b" step\n");
+        print(rt, b" step\n")
     } else {
-        print(b" steps\n");
+        print(rt, b" steps\n")
     }
 }
 
-fn check_text(path: &[u8], text: &[u8], work: &mut [u8], record: &mut [u8], lines: &mut [u32]) {
+fn check_text(
+    rt: &impl Print,
+    path: &str,
+    text: &[u8],
+    work: &mut [u8],
+    record: &mut [u8],
+    lines: &mut [u32],
+) -> io::Result<()> {
     match scenario::read_scenario(text, work, record, lines) {
         ScenarioAnswer::Read {
             tree_bytes: _,
             record_bytes: _,
             line_bytes: _,
             steps,
-        } => print_ok(path, steps),
-        ScenarioAnswer::Refused(e) => print_refusal(path, e),
+        } => print_ok(rt, path, steps),
+        ScenarioAnswer::Refused(e) => print_refusal(rt, path, e),
     }
 }
 
-// Tells an empty file from what cannot be read, as a directory.
-fn is_readable(file: i32) -> bool {
-    let mut one = [0u8; 1];
-    libc::read(file, &mut one) >= 0
+// A byte more than a text may have, so a longer file is refused too.
+fn read_file<R: Files + AllocGlobal>(rt: &R, path: &str) -> io::Result<Vec<u8>> {
+    let mut text = Vec::new(rt.alloc());
+    File::open(rt, path)?.take(65536).read_to_end(&mut text)?;
+    Ok(text)
 }
 
-// The buffer has a byte more than a text may have, so a longer file is refused too.
-fn check_open(
-    path: &[u8],
-    file: i32,
-    text: &mut [u8],
-    work: &mut [u8],
-    record: &mut [u8],
-    lines: &mut [u32],
-) {
-    let n = io::read_full(file, text);
-    if n == 0 {
-        if !is_readable(file) {
-            os::fail(path);
-            return;
+fn check_open<R: AllocGlobal + Print>(rt: &R, path: &str, text: &[u8]) -> io::Result<()> {
+    let mut work = vec![in rt.alloc(); 0u8; 65536]?;
+    let mut record = vec![in rt.alloc(); 0u8; 65536]?;
+    let mut lines = vec![in rt.alloc(); 0u32; 512]?;
+    check_text(
+        rt,
+        path,
+        text,
+        &mut work[..],
+        &mut record[..],
+        &mut lines[..],
+    )
+}
+
+fn check_file<R: Files + AllocGlobal + Print + Eprint>(rt: &R, path: &str) -> io::Result<()> {
+    match read_file(rt, path) {
+        Ok(text) => check_open(rt, path, &text[..]),
+        Err(e) => eprintln!(rt; "{path}: {e}"),
+    }
+}
+
+fn check_path<R: Files + AllocGlobal + Print + Eprint>(rt: &R, path: &[u8]) -> io::Result<()> {
+    match str::from_utf8(path) {
+        Ok(name) => check_file(rt, name),
+        Err(_) => eprintln!(rt; "drumcheck: a name that is not UTF-8"),
+    }
+}
+
+// Whether there was an argument at this place.
+fn check_argument<R: Files + AllocGlobal + Print + Eprint + Env>(
+    rt: &R,
+    i: usize,
+) -> io::Result<bool> {
+    let mut path = vec![in rt.alloc(); 0u8; 4096]?;
+    match rt.arg(i, &mut path[..]) {
+        Ok(length) => check_path(rt, &path[..length])?,
+        Err(FillError::TooLong) => eprintln!(rt; "drumcheck: a name that is too long")?,
+        Err(FillError::NotPresent) => return Ok(false),
+    }
+    Ok(true)
+}
+
+fn check_files<R: Files + AllocGlobal + Print + Eprint + Env>(rt: &R) -> io::Result<()> {
+    for i in 1..usize::MAX {
+        if !check_argument(rt, i)? {
+            if i == 1 {
+                eprintln!(rt; "usage: drumcheck FILE..")?;
+            }
+            return Ok(());
         }
     }
-    if n <= text.len() {
-        check_text(path, &text[..n], work, record, lines);
-    }
+    Ok(())
 }
 
-fn check_file(path: &[u8]) {
-    let file = os::open_read(path);
-    if file < 0 {
-        os::fail(path);
-        return;
-    }
-    check_open(
-        path,
-        file,
-        &mut [0u8; 65536],
-        &mut [0u8; 65536],
-        &mut [0u8; 65536],
-        &mut [0u32; 512],
-    );
-    libc::close(file);
-}
-
-fn check_argument(i: usize) {
-    let mut path = io::buffer();
-    let length = os::arg(i, &mut path);
-    if os::errno() != 0 {
-        os::fail(b"drumcheck");
-        return;
-    }
-    check_file(&path[..length]);
-}
-
-fn main() {
-    let arguments = os::arg_count();
-    if arguments < 2 {
-        io::write_all(STDERR_FILENO, b"usage: drumcheck FILE..\n");
-    }
-    for i in 1..arguments {
-        check_argument(i);
-    }
+fn main(rt: HostRuntime) -> io::Result<()> {
+    check_files(&rt)
 }

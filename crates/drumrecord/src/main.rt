@@ -1,30 +1,28 @@
 // Reads a scenario text from standard input and writes its record to standard output, byte for byte. Of a refused text it writes nothing
-// there, and `refused` with number, line and step to standard error. It lends as much as drumread, so it accepts the same texts; the text
-// buffer has a byte more than a text may have, so a longer input is refused too.
-use libc::{STDERR_FILENO, STDIN_FILENO, STDOUT_FILENO};
+// there, and `refused` with number, line and step to standard error. It lends as much as drumread, so it accepts the same texts; it reads
+// a byte more than a text may have, so a longer input is refused too.
+#![tactic(auto)]
+
 use refusal::Refusal;
 use scenario::ScenarioAnswer;
+use std::io;
+use std::io::{Read, Write};
 
-fn print(text: &[u8]) {
-    io::write_all(STDERR_FILENO, text);
-}
-
-fn print_number(n: u32) {
-    io::print_decimal(STDERR_FILENO, n as u64);
-}
-
-fn print_refusal(e: Refusal) {
+fn print_refusal(rt: &impl Eprint, e: Refusal) -> io::Result<()> {
     let told = e.told();
-    print(b"refused ");
-    print_number(told.number);
-    print(b" ");
-    print_number(told.line);
-    print(b" ");
-    print_number(told.step);
-    print(b"\n");
+    let number = told.number;
+    let line = told.line;
+    let step = told.step;
+    eprintln!(rt; "refused {number} {line} {step}")
 }
 
-fn write_record(text: &[u8], work: &mut [u8], record: &mut [u8], lines: &mut [u32]) {
+fn write_record<R: Print + Eprint>(
+    rt: &R,
+    text: &[u8],
+    work: &mut [u8],
+    record: &mut [u8],
+    lines: &mut [u32],
+) -> io::Result<()> {
     match scenario::read_scenario(text, work, record, lines) {
         ScenarioAnswer::Read {
             tree_bytes: _,
@@ -33,25 +31,25 @@ fn write_record(text: &[u8], work: &mut [u8], record: &mut [u8], lines: &mut [u3
             steps: _,
         } => {
             if record_bytes <= record.len() {
-                io::write_all(STDOUT_FILENO, &record[..record_bytes]);
+                return io::writer(rt).write_all(&record[..record_bytes]);
             }
+            Ok(())
         }
-        ScenarioAnswer::Refused(e) => print_refusal(e),
+        ScenarioAnswer::Refused(e) => print_refusal(rt, e),
     }
 }
 
-fn read_input(text: &mut [u8], work: &mut [u8], record: &mut [u8], lines: &mut [u32]) {
-    let n = io::read_full(STDIN_FILENO, text);
-    if n <= text.len() {
-        write_record(&text[..n], work, record, lines);
-    }
-}
-
-fn main() {
-    read_input(
-        &mut [0u8; 65536],
-        &mut [0u8; 65536],
-        &mut [0u8; 65536],
-        &mut [0u32; 512],
-    );
+fn main(rt: HostRuntime) -> io::Result<()> {
+    let mut text = Vec::new(rt.alloc());
+    let mut work = vec![in rt.alloc(); 0u8; 65536]?;
+    let mut record = vec![in rt.alloc(); 0u8; 65536]?;
+    let mut lines = vec![in rt.alloc(); 0u32; 512]?;
+    rt.reader().take(65536).read_to_end(&mut text)?;
+    write_record(
+        &rt,
+        &text[..],
+        &mut work[..],
+        &mut record[..],
+        &mut lines[..],
+    )
 }

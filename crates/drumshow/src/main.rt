@@ -1,144 +1,152 @@
 // Reads a record from standard input and prints it for people: a line for each item, named by its field, key or number, and what is in it
-// below, further in. Of bytes that are no record it prints `refused 40 0 0`. The buffer has a byte more than a record may have.
-mod scalar;
+// below, further in. Of bytes that are no record it prints `refused 40 0 0`. It reads a byte more than a record may have.
+#![tactic(auto)]
+
+mod written;
 
 use item::{Header, header_at};
-use libc::{STDIN_FILENO, STDOUT_FILENO};
 use record::{RecordAnswer, part};
 use refusal::Refusal;
-use scalar::{print_integer, print_text};
+use std::io;
+use std::io::{Read, Write};
+use written::{print_integer, print_text};
 
 // More levels than a record has.
 const DEEPEST: usize = 40;
 
-fn print(text: &[u8]) {
-    io::write_all(STDOUT_FILENO, text);
+fn print(rt: &impl Print, text: &[u8]) -> io::Result<()> {
+    io::writer(rt).write_all(text)
 }
 
-fn print_number(n: u64) {
-    io::print_decimal(STDOUT_FILENO, n);
+fn print_number(rt: &impl Print, n: u64) -> io::Result<()> {
+    print!(rt; "{n}")
 }
 
-fn print_refusal(e: Refusal) {
+fn print_refusal(rt: &impl Print, e: Refusal) -> io::Result<()> {
     let told = e.told();
-    print(b"refused ");
-    print_number(told.number as u64);
-    print(b" ");
-    print_number(told.line as u64);
-    print(b" ");
-    print_number(told.step as u64);
-    print(b"\n");
+    let number = told.number;
+    let line = told.line;
+    let step = told.step;
+    println!(rt; "refused {number} {line} {step}")
 }
 
-fn print_indent(deep: usize) {
+fn print_indent(rt: &impl Print, deep: usize) -> io::Result<()> {
     for _ in 0..deep {
-        print(b"  ");
+        print(rt, b"  ")?;
+    }
+    Ok(())
+}
+
+fn print_field(rt: &impl Print, i: usize) -> io::Result<()> {
+    match i {
+        0 => print(rt, b"name:"),
+        1 => print(rt, b"description:"),
+        2 => print(rt, b"tags:"),
+        3 => print(rt, b"image:"),
+        4 => print(rt, b"setup:"),
+        5 => print(rt, b"defaults:"),
+        6 => print(rt, b"fail_on:"),
+        _ => print(rt, b"steps:"),
     }
 }
 
-fn print_field(i: usize) {
+fn print_part(rt: &impl Print, i: usize) -> io::Result<()> {
     match i {
-        0 => print(b"name:"),
-        1 => print(b"description:"),
-        2 => print(b"tags:"),
-        3 => print(b"image:"),
-        4 => print(b"setup:"),
-        5 => print(b"defaults:"),
-        6 => print(b"fail_on:"),
-        _ => print(b"steps:"),
+        0 => print(rt, b"name:"),
+        1 => print(rt, b"id:"),
+        2 => print(rt, b"command:"),
+        3 => print(rt, b"value:"),
+        4 => print(rt, b"timeout:"),
+        5 => print(rt, b"continue_on_error:"),
+        _ => print(rt, b"expect:"),
     }
 }
 
-fn print_part(i: usize) {
+fn print_default(rt: &impl Print, i: usize) -> io::Result<()> {
     match i {
-        0 => print(b"name:"),
-        1 => print(b"id:"),
-        2 => print(b"command:"),
-        3 => print(b"value:"),
-        4 => print(b"timeout:"),
-        5 => print(b"continue_on_error:"),
-        _ => print(b"expect:"),
-    }
-}
-
-fn print_default(i: usize) {
-    match i {
-        0 => print(b"timeout:"),
-        _ => print(b"wall_budget:"),
+        0 => print(rt, b"timeout:"),
+        _ => print(rt, b"wall_budget:"),
     }
 }
 
 // The key at this place, and where its value begins.
-fn print_key(s: &[u8], at: usize) -> usize {
+fn print_key(rt: &impl Print, s: &[u8], at: usize) -> io::Result<usize> {
     let head = header_at(s, at);
     let Header::Item { kind: _, from, to } = head else {
-        return at;
+        return Ok(at);
     };
-    print_text(part(s, from, to));
-    print(b":");
-    to
+    print_text(rt, part(s, from, to))?;
+    print(rt, b":")?;
+    Ok(to)
 }
 
 // What names an item inside one of this kind, of which `i` stand before it. Answers where the item itself begins.
-fn print_name(s: &[u8], kind: usize, i: u64, at: usize) -> usize {
+fn print_name(rt: &impl Print, s: &[u8], kind: usize, i: u64, at: usize) -> io::Result<usize> {
     match kind {
-        4 => print(b"-"),
-        5 => return print_key(s, at),
-        16 => print_field(i as usize),
-        17 => print_default(i as usize),
+        4 => print(rt, b"-")?,
+        5 => return print_key(rt, s, at),
+        16 => print_field(rt, i as usize)?,
+        17 => print_default(rt, i as usize)?,
         18 => {
-            print(b"step ");
-            print_number(std::num::wrapping_add_u64(i, 1));
-            print(b":");
+            print(rt, b"step ")?;
+            print_number(rt, std::num::wrapping_add_u64(i, 1))?;
+            print(rt, b":")?;
         }
-        _ => print_part(i as usize),
+        _ => print_part(rt, i as usize)?,
     }
-    at
+    Ok(at)
 }
 
 // A scalar, behind its name; of what holds items only whether it is empty.
-fn print_scalar(s: &[u8], kind: usize, from: usize, to: usize) {
+fn print_scalar(rt: &impl Print, s: &[u8], kind: usize, from: usize, to: usize) -> io::Result<()> {
     match kind {
-        0 => print(b" null"),
-        1 => print_flag(part(s, from, to)),
-        2 => print_integer(part(s, from, to)),
+        0 => print(rt, b" null")?,
+        1 => print_flag(rt, part(s, from, to))?,
+        2 => print_integer(rt, part(s, from, to))?,
         3 => {
-            print(b" ");
-            print_text(part(s, from, to));
+            print(rt, b" ")?;
+            print_text(rt, part(s, from, to))?;
         }
-        4 => print_if_empty(b" []", from, to),
-        5 => print_if_empty(b" {}", from, to),
-        _ => print_if_empty(b" none", from, to),
+        4 => print_if_empty(rt, b" []", from, to)?,
+        5 => print_if_empty(rt, b" {}", from, to)?,
+        _ => print_if_empty(rt, b" none", from, to)?,
     }
-    print(b"\n");
+    print(rt, b"\n")
 }
 
-fn print_if_empty(mark: &[u8], from: usize, to: usize) {
+fn print_if_empty(rt: &impl Print, mark: &[u8], from: usize, to: usize) -> io::Result<()> {
     if from == to {
-        print(mark);
+        return print(rt, mark);
     }
+    Ok(())
 }
 
-fn print_flag(content: &[u8]) {
+fn print_flag(rt: &impl Print, content: &[u8]) -> io::Result<()> {
     if content.len() > 0 {
         if content[0] == 1 {
-            print(b" true");
-            return;
+            return print(rt, b" true");
         }
     }
-    print(b" false");
+    print(rt, b" false")
 }
 
 // The items from `at` to `end`, which stand in one of this kind.
-fn print_items(s: &[u8], kind: usize, at: usize, end: usize, deep: usize) {
+fn print_items(
+    rt: &impl Print,
+    s: &[u8],
+    kind: usize,
+    at: usize,
+    end: usize,
+    deep: usize,
+) -> io::Result<()> {
     if deep >= DEEPEST {
-        return;
+        return Ok(());
     }
     let mut i: u64 = 0;
     let mut p = at;
     while p < end {
-        print_indent(deep);
-        let start = print_name(s, kind, i, p);
+        print_indent(rt, deep)?;
+        let start = print_name(rt, s, kind, i, p)?;
         let head = header_at(s, start);
         let Header::Item {
             kind: inner,
@@ -146,39 +154,30 @@ fn print_items(s: &[u8], kind: usize, at: usize, end: usize, deep: usize) {
             to,
         } = head
         else {
-            return;
+            return Ok(());
         };
-        print_scalar(s, inner, from, to);
+        print_scalar(rt, s, inner, from, to)?;
         if inner > 3 {
-            print_items(s, inner, from, to, deep + 1);
+            print_items(rt, s, inner, from, to, deep + 1)?;
         }
         if to <= p {
-            return;
+            return Ok(());
         }
         i = std::num::wrapping_add_u64(i, 1);
         p = to;
     }
+    Ok(())
 }
 
-fn print_record(record: &[u8]) {
+fn print_record(rt: &impl Print, record: &[u8]) -> io::Result<()> {
     match record::check_record(record) {
-        RecordAnswer::Good { steps: _ } => print_items(record, 16, 6, record.len(), 0),
-        RecordAnswer::Refused(e) => print_refusal(e),
+        RecordAnswer::Good { steps: _ } => print_items(rt, record, 16, 6, record.len(), 0),
+        RecordAnswer::Refused(e) => print_refusal(rt, e),
     }
 }
 
-fn read_input(buffer: &mut [u8]) {
-    let n = io::read_full(STDIN_FILENO, buffer);
-    if n <= buffer.len() {
-        print_record(&buffer[..n]);
-    }
-}
-
-// The array becomes a slice here, and not where it is made.
-fn show(buffer: &mut [u8; 1048577]) {
-    read_input(buffer);
-}
-
-fn main() {
-    show(&mut [0u8; 1048577]);
+fn main(rt: HostRuntime) -> io::Result<()> {
+    let mut buffer = Vec::new(rt.alloc());
+    rt.reader().take(1048577).read_to_end(&mut buffer)?;
+    print_record(&rt, &buffer[..])
 }

@@ -1,6 +1,6 @@
 -- The order of keys: no key is below itself, and what is below is so through others. Two keys of one length compared from the front.
 -- Assumes nothing.
-use mathlib.Core.Path.{◌≡◌, ◌∙◌}
+use mathlib.Core.Path.{◌≡◌, refl, ◌∙◌}
 use Prim.Native.Nat.{ℕ, ◌+◌, ◌<◌}
 use native.Mathlib.Numerals.{add-one}
 use native.Mathlib.Omega.{arith}
@@ -9,9 +9,12 @@ use lib.ListN.{length, drop, get_or}
 use lib.Seq.{drop-cons}
 use Rattle.entries.specs.Contract.{Less, less, more, Below, shorter, as_long}
 
+less-other : {a b : List ℕ} → a ≡ b → Less a b → ⊥
+less-other e (less {a = x} {b = y} h) = let q : x ≡ y = cc in omega arith
+less-other e (more {xs = xs} {ys = ys} h) = let q : xs ≡ ys = cc in less-other q h
+
 less-self : {a : List ℕ} → Less a a → ⊥
-less-self (less h) = omega arith
-less-self (more h) = less-self h
+less-self h = less-other refl h
 
 less-through : {a b c : List ℕ} → Less a b → Less b c → Less a c
 less-through (less {a = a} g) (less {b = c} h) = less {a = a} {b = c} (omega arith)

@@ -1,5 +1,7 @@
 // Encoded items side by side, as a sequence, a mapping or a record has them: an entry of a mapping is its key's item, then its value's.
 // The bytes may be any; where no items stand there, an answer is only within them.
+#![tactic(auto)]
+
 ghost use Rattle.std.specs.Prelude.{◌≡◌, ◌-◌, ◌≤◌, ◌^◌, length, take, drop};
 ghost use Rattle.item.specs.Tree.{Entries, has_key, get};
 ghost use Rattle.item.specs.Encode.{encode};

@@ -1,6 +1,8 @@
 // One line's value: a scalar, a flow sequence or a flow mapping, written into the work bytes as it is read (document 01,
 // section 2). A reader is lent the part of a line that it reads, as `s`, and the work bytes, as `out`, of which the first `at` are
 // used; all of `out` counts. `levels` more collections may be opened.
+#![tactic(auto)]
+
 ghost use Rattle.std.specs.Prelude.{◌≡◌, ◌⊎◌, Bool, true, false, ◌+◌, ◌≤◌, ◌<◌, ◌^◌, length, drop, get_or};
 ghost use Rattle.scalar.specs.declared.Role.{Role as Roles};
 ghost use Rattle.scalar.specs.declared.Role.TheVariants.{AsValue};

@@ -4,19 +4,16 @@ use Prim.Native.Nat.{ℕ, ◌+◌, ◌-◌, ◌≤◌}
 use native.Mathlib.Omega.{arith}
 use mathlib.Core.List.{List}
 use mathlib.Core.Bool.{Bool, true, false}
-use mathlib.Core.Logic.{◌⊎◌, ⊎_elim}
 use mathlib.Core.Option.{none, some}
 use lib.Dec.{ltb}
 use lib.ListN.{length, take, drop}
 use borrow.Author.Tests.{ltb-true, ltb-false}
-use denote.Enum.Declared.{tag_of}
 use Rattle.item.specs.Encode.{number}
 use Rattle.item.specs.Decode.{header}
 use Rattle.item.specs.Places.{header_at}
 use Rattle.item.proofs.HeaderPlaces.{found, at_cut, at-past, at_item, header-places}
 use Rattle.item.specs.declared.Header.{Header}
 use Rattle.item.specs.declared.Header.TheVariants.{Item, Cut, PastEnd}
-use Rattle.item.specs.contracts.Header as H
 
 -- ---- an item
 
@@ -58,14 +55,12 @@ header-item s at h = header-places s at ∙ ap (found s) (sym h)
 
 -- ---- no item
 
--- the tag of a header that is one of the other two variants
+-- a header that is one of the other two variants, as the arm of a `match` that no item comes to says it
 abbrev pub NoItem : Header → Type 0
-NoItem r = (tag_of H.the_type r ≡ 1) ⊎ (tag_of H.the_type r ≡ 2)
+NoItem r = (kind from to : ℕ) → r ≡ Item kind from to → ⊥
 
 pub an_item : {X : Type 0} (r : Header) {kind from to : ℕ} → r ≡ Item kind from to → NoItem r → X
-an_item r e k =
-    let z : tag_of H.the_type r ≡ 0 = ap (tag_of H.the_type) e in
-    absurd (⊎_elim (λ p. omega arith) (λ p. omega arith) k)
+an_item r {kind} {from} {to} e k = absurd (k kind from to e)
 
 pub no_header : (s : List ℕ) (at : ℕ) (r : Header) → r ≡ header_at s at → NoItem r → header (drop at s) ≡ none
 unfolding found

@@ -1,4 +1,6 @@
 // Items, the bytes that trees and records are made of: content length (4 bytes), kind (2 bytes), both little-endian, then the content.
+#![tactic(auto)]
+
 ghost use Rattle.std.specs.Prelude.{◌≡◌, ◌+◌, ◌≤◌, ◌<◌, ◌^◌, length, take, drop, replicate};
 ghost use Rattle.std.proofs.lemmas.List.Edits.{sets};
 ghost use Rattle.refusal.specs.Base.{same};
@@ -21,7 +23,7 @@ pub enum Header {
 }
 
 // A place that was looked for.
-#[derive(Drop)]
+#[derive(Clone, Copy)]
 pub enum Found {
     At(usize),
     Nothing,

@@ -6,7 +6,6 @@ use native.Mathlib.Numerals.{add-one}
 use native.Mathlib.Omega.{arith}
 use mathlib.Core.List.{List, [], ◌∷◌, ◌++◌, append_assoc, append-nil}
 use mathlib.Core.Bool.{Bool, true, false}
-use mathlib.Core.Logic.{⊎_elim}
 use lib.Dec.{ltb}
 use lib.ListN.{length, drop, drop_of_length-le}
 use lib.Seq.{sets}
@@ -18,9 +17,6 @@ use Rattle.utf8.proofs.Laws.{part-empty, part-cons, part-drop, part-take, end-pa
 use Rattle.lines.specs.declared.Raw.{Raw}
 use Rattle.lines.specs.declared.Literal.{Literal}
 use Rattle.lines.specs.declared.Literal.TheVariants.{Closed, Under}
-use types.Run.{OneOf}
-use denote.Enum.Declared.{tag_of}
-use Rattle.lines.specs.contracts.Way.{the_type}
 use Rattle.lines.specs.Lines.{Line, line, split_lines, significant_lines, indent_of, tabbed, strip_comment, significant, is_marker, opens_literal, literal_of, literal_after, Event, entry, events_of, blanks_before, body_of, scan, collect}
 use Rattle.lines.specs.declared.Way.{Way}
 use Rattle.lines.specs.declared.Way.TheVariants.{Normal, Blank, Body}
@@ -151,23 +147,23 @@ module _ (text : List ℕ) (raw : Raw) (ok : IsRaw text raw) where
         go false false = rw (add-one n)
 
     module _ (lit : Literal) where
-      pub scan-normal : (way : Way) → way_of lit (raw_text text raw) ≡ way → OneOf (0 ∷ 2 ∷ []) (tag_of the_type way) → OneOf (0 ∷ 1 ∷ []) (tag_of the_type way)
+      pub scan-normal : (way : Way) → way_of lit (raw_text text raw) ≡ way → ((under : ℕ) → way ≡ Blank under → ⊥) → ((under : ℕ) → way ≡ Body under → ⊥)
           → scan lit waiting n (raw_text text raw ∷ raws) ≡ normal raw text raws
       unfolding read_by
       scan-normal Normal w k l = by_way lit ∙ ap read_by w
-      scan-normal (Blank under) w k l = absurd (⊎_elim (λ z. omega arith) (λ z. omega arith) k)
-      scan-normal (Body under) w k l = absurd (⊎_elim (λ z. omega arith) (λ z. omega arith) l)
+      scan-normal (Blank under) w k l = absurd (k under refl)
+      scan-normal (Body under) w k l = absurd (l under refl)
 
       pub scan-blank : (under : ℕ) → way_of lit (raw_text text raw) ≡ Blank under → scan lit waiting n (raw_text text raw ∷ raws) ≡ scan (Under under) (waiting + 1) (n + 1) raws
       unfolding read_by
       scan-blank under w = by_way lit ∙ ap read_by w
 
       -- a tab stops a line that is not blank
-      pub tab-stops : (way : Way) → way_of lit (raw_text text raw) ≡ way → OneOf (0 ∷ 2 ∷ []) (tag_of the_type way) → (room : ℕ) → tabbed (raw_text text raw) ≡ true
+      pub tab-stops : (way : Way) → way_of lit (raw_text text raw) ≡ way → ((under : ℕ) → way ≡ Blank under → ⊥) → (room : ℕ) → tabbed (raw_text text raw) ≡ true
           → collect room (scan lit waiting n (raw_text text raw ∷ raws)) ≡ refused 4 n 0
       unfolding read_by events_of body_of
       tab-stops Normal w k room t = ap (collect room) (by_way lit ∙ ap read_by w) ∙ rw t (collect-bad room 4 n (scan (literal_after (raw_text text raw)) 0 (n + 1) raws))
-      tab-stops (Blank under) w k room t = absurd (⊎_elim (λ z. omega arith) (λ z. omega arith) k)
+      tab-stops (Blank under) w k room t = absurd (k under refl)
       tab-stops (Body under) w k room t = ap (collect room) (by_way lit ∙ ap read_by w) ∙ rw t (collect-bad room 4 n (scan (Under under) 0 (n + 1) raws))
 
       pub scan-body : (under : ℕ) → way_of lit (raw_text text raw) ≡ Body under → scan lit waiting n (raw_text text raw ∷ raws) ≡ body raw under waiting text raws

@@ -1,4 +1,6 @@
 // The significant lines of a text, as a table of entries (document 01, section 1).
+#![tactic(auto)]
+
 ghost use Rattle.std.specs.Prelude.{◌≡◌, false, List, [], ◌∷◌, ◌++◌, ℕ, ◌+◌, ◌*◌, ◌≤◌, ◌<◌, ◌^◌, length, drop, get_or};
 ghost use Rattle.std.proofs.lemmas.List.Edits.{sets};
 ghost use Rattle.refusal.specs.Base.{ends_with};
@@ -22,7 +24,7 @@ pub const TABLE: usize = 8192;
 
 // Where a byte stands that is looked at for a comment: outside quotes, first or after a space, or elsewhere; in single or in
 // double quotes; behind a `\` in double quotes.
-#[derive(Drop)]
+#[derive(Clone, Copy)]
 pub enum Place {
     Fresh,
     Plain,
@@ -45,7 +47,7 @@ pub enum LinesAnswer {
 }
 
 // A line of the text: its places and its number. Its indentation ends at `start`.
-#[derive(Drop)]
+#[derive(Clone, Copy)]
 pub struct Raw {
     pub from: usize,
     pub start: usize,

@@ -1,5 +1,7 @@
 // Literals, written into the work bytes (document 01, section 3). Lines are read from a table of entries, of which the first
 // `count` count.
+#![tactic(auto)]
+
 ghost use Rattle.std.specs.Prelude.{◌≡◌, [], ◌∷◌, ◌++◌, ◌+◌, ◌*◌, ◌-◌, ◌≤◌, ◌<◌, ◌^◌, length, take, replicate, get_or, if◌then◌else◌};
 ghost use Rattle.std.proofs.lemmas.List.Edits.{sets};
 ghost use Rattle.refusal.specs.Base.{ch};

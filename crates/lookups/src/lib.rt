@@ -1,5 +1,7 @@
 // What a panel looks up in a record (document 01, section 6): a step by its id, a value by its key, and how often a step is repeated.
 // A record comes from outside, so every job takes any bytes, checks them itself and writes nothing.
+#![tactic(auto)]
+
 ghost use Rattle.std.specs.Prelude.{◌≡◌, ℕ, ◌+◌, ◌≤◌, ◌^◌, List, map, length};
 ghost use Rattle.refusal.specs.Base.{good, maybe};
 ghost use Rattle.item.specs.Tree.{Yaml, Entries, int, Ranged};

@@ -1,4 +1,6 @@
 // The names that document 01 keeps for the keys of a scenario.
+#![tactic(auto)]
+
 ghost use Rattle.std.specs.Prelude.{◌≡◌, [], ◌∷◌};
 ghost use Rattle.refusal.specs.Base.{one_of};
 ghost use Rattle.meaning.specs.Meaning.{step_fields, built_in_steps};

@@ -1,4 +1,6 @@
 // Which lines and steps the answers name (document 01, "Answers"): the same of every job, proved from the contracts of the jobs alone.
+#![tactic(auto)]
+
 ghost use Rattle.tree.specs.Tree as trees;
 ghost use Rattle.scenario.specs.Scenario as scenarios;
 ghost use Rattle.record.specs.Jobs.{answer_of, lookup_of};

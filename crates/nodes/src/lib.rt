@@ -1,6 +1,8 @@
 // What is written of a tree where it stands in its bytes: scalars as key text, values as they are. It is stored as far as it fits and
 // summed beyond that, so that one walk serves for both. At most 2 ^ 20 bytes of a buffer count, so a part takes at most 2 ^ 21; a place
 // counts on beyond the buffer's end, and the bounds of 2 ^ 50 and more keep it below 2 ^ 64.
+#![tactic(auto)]
+
 ghost use Rattle.std.specs.Prelude.{◌≡◌, [], true, false, ◌+◌, ◌-◌, ◌≤◌, ◌<◌, ◌^◌, length, take, drop, get_or, ltb};
 ghost use Rattle.std.proofs.Math.Option.{Option, none};
 ghost use Rattle.std.proofs.lemmas.List.Edits.{sets};

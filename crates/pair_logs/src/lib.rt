@@ -1,5 +1,7 @@
 // A hammer log against a microphone log (document 02, P12): which hammer makes a pair with which sound, and which are alone. The lists are
 // written as far as they have places and counted beyond that, so that one walk serves.
+#![tactic(auto)]
+
 ghost use Rattle.std.specs.Prelude.{◌≡◌, ◌≤◌, length, set};
 ghost use Rattle.pair_logs.specs.PairLogs as definition;
 ghost use Rattle.pair_logs.specs.PairLogs.{pair_logs, output, pair_numbers, hammer_numbers, sound_numbers, answer_of, counts_of};

@@ -61,7 +61,7 @@ module _ {b : List ℕ} {n : ℕ} (w : Opened b n) where
 
   pub field_in : (place i : ℕ) → place ≡ suc i → i < 8 → span_of (nth_item b 6 i) ≡ job.field b place
   unfolding fields
-  field_in place i e h = field_found b w.meaning w.record-is i h ∙ sym (field_is w place ∙ numbered-in 6 (fields w.meaning) place i e h)
+  field_in place i e h = field_found b w.meaning w.record_is i h ∙ sym (field_is w place ∙ numbered-in 6 (fields w.meaning) place i e h)
 
   pub step-out : (number i : ℕ) → number ≡ suc i → n ≤ i → refused 53 0 0 ≡ job.step b number
   step-out number i e h =
@@ -70,7 +70,7 @@ module _ {b : List ℕ} {n : ℕ} (w : Opened b n) where
 
   -- the last field is always found
   last-is : span_of (nth_item b 6 7) ≡ good (part_at 6 (fields w.meaning) 7)
-  last-is = field_found b w.meaning w.record-is 7 (omega arith)
+  last-is = field_found b w.meaning w.record_is 7 (omega arith)
 
   pub last_found : (r : Span) → r ≡ nth_item b 6 7 → {x : Answer Found} → span_of r ≡ x
       → x ≡ good (part (6 + length (joined (take 7 (fields w.meaning)))) (6 + length (joined (take 8 (fields w.meaning)))))
@@ -86,7 +86,7 @@ module _ {b : List ℕ} {n : ℕ} (w : Opened b n) where
       let c : i < length w.meaning.steps = omega (arith, w.count) in
       let d : i < length (map step_item w.meaning.steps) = omega (arith, length-steps w.meaning.steps) in
       ap (λ (k : ℕ). span_of (nth_item b k i)) at
-      ∙ step-found b w.meaning w.record-is i c
+      ∙ step-found b w.meaning w.record_is i c
       ∙ sym (step_is w number ∙ numbered-in (steps_start w.meaning) (map step_item w.meaning.steps) number i e d)
 
 pub never-nothing : {start end : ℕ} {X : Type 0} → good nothing ≡ good (part start end) → X

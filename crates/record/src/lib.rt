@@ -1,5 +1,7 @@
 // The record of a scenario (document 01, section 5): the check that bytes are one, and the lookups of its fields and steps. A record
 // comes from outside, so every job takes any bytes, checks them itself and writes nothing.
+#![tactic(auto)]
+
 ghost use Rattle.std.specs.Prelude.{◌≡◌, ◌≤◌, ◌^◌, length, drop};
 ghost use Rattle.value.specs.Walks.{Walks};
 ghost use Rattle.record.specs.Read.{field_of};

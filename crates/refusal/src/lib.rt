@@ -1,5 +1,7 @@
 // Why a text, a record, a lookup, a beat or a log is refused: a case for each number of document 01, and of the requests of document 02,
 // holding the line and the step that its answer names. Both count from 1; a line is 0 where a step has none.
+#![tactic(auto)]
+
 ghost use Rattle.std.specs.Prelude.{◌≡◌};
 ghost use Rattle.refusal.specs.Told.{told, told_of};
 

@@ -1,7 +1,9 @@
 // Replays the stored cases of the stream and prints what the reader answers: a line for each text. What must be printed, in the file
 // stdout, comes from Rust; the limits that the Rust lacks, from document 01.
-mod entries;
+#![tactic(auto)]
+
 mod items;
+mod line_entries;
 mod logs;
 mod print;
 mod records;
@@ -20,63 +22,82 @@ use crate::section::{
     VALUES, next_section,
 };
 use crate::stream::{END, MANY, next_text};
+use std::io;
+use std::io::{BufReader, Read};
 
-fn answer(section: Section, text: &[u8]) {
+fn answer<R: Print + AllocGlobal>(rt: &R, section: Section, text: &[u8]) -> io::Result<()> {
     let kind = section.kind;
     match kind {
-        HEADERS => items::print_header(text, section.first),
-        SAME => items::print_same(text, section.first),
-        LINES => entries::print_lines(text),
-        VALUES => values::print_line(text),
-        TREES => trees::print_tree(text),
-        LEAST_WORK => trees::print_least(text),
-        RECORDS => records::print_record(text),
-        RECORD_CHECKS => steps::print_record_check(text),
-        LOOKUPS => steps::print_lookups(text),
-        SHARES => shares::print_shares(text),
-        LOGS => logs::print_logs(text),
-        SCENARIOS | SCENARIO_TREES | SCENARIO_SIZES => scenarios::print_scenario(section, text),
+        HEADERS => items::print_header(rt, text, section.first)?,
+        SAME => items::print_same(rt, text, section.first)?,
+        LINES => line_entries::print_lines(rt, text)?,
+        VALUES => values::print_line(rt, text)?,
+        TREES => trees::print_tree(rt, text)?,
+        LEAST_WORK => trees::print_least(rt, text)?,
+        RECORDS => records::print_record(rt, text)?,
+        RECORD_CHECKS => steps::print_record_check(rt, text)?,
+        LOOKUPS => steps::print_lookups(rt, text)?,
+        SHARES => shares::print_shares(rt, text)?,
+        LOGS => logs::print_logs(rt, text)?,
+        SCENARIOS | SCENARIO_TREES | SCENARIO_SIZES => {
+            scenarios::print_scenario(rt, section, text)?;
+        }
         _ => {}
     }
-    print_byte(b'\n');
+    print_byte(rt, b'\n')
 }
 
-fn replay_texts(section: Section, buffer: &mut [u8], texts: usize) {
+fn replay_texts<R: Print + AllocGlobal>(
+    rt: &R,
+    input: &mut impl Read,
+    section: Section,
+    buffer: &mut [u8],
+    texts: usize,
+) -> io::Result<()> {
     for _ in 0..texts {
-        let n = next_text(buffer);
+        let n = next_text(input, buffer)?;
         if n > buffer.len() {
-            return;
+            return Ok(());
         }
-        answer(section, &buffer[0..n]);
+        answer(rt, section, &buffer[0..n])?;
     }
+    Ok(())
 }
 
-fn replay_section(section: Section, buffer: &mut [u8]) {
+fn replay_section<R: Print + AllocGlobal>(
+    rt: &R,
+    input: &mut impl Read,
+    section: Section,
+    buffer: &mut [u8],
+) -> io::Result<()> {
     let kind = section.kind;
     match kind {
-        ITEMS => items::print_items(),
-        LONG_RECORD => records::print_long(buffer, section.first, section.second),
-        PARTS => records::print_parts(),
-        SCENARIO_CHECKS => steps::print_scenarios(buffer),
-        _ => replay_texts(section, buffer, MANY),
+        ITEMS => items::print_items(rt),
+        LONG_RECORD => records::print_long(rt, input, buffer, section.first, section.second),
+        PARTS => records::print_parts(rt),
+        SCENARIO_CHECKS => steps::print_scenarios(rt, input, buffer),
+        _ => replay_texts(rt, input, section, buffer, MANY),
     }
 }
 
-fn replay_sections(buffer: &mut [u8], sections: usize) {
+fn replay_sections<R: Print + AllocGlobal>(
+    rt: &R,
+    input: &mut impl Read,
+    buffer: &mut [u8],
+    sections: usize,
+) -> io::Result<()> {
     for _ in 0..sections {
-        let section = next_section();
+        let section = next_section(input)?;
         if section.kind == END {
-            return;
+            return Ok(());
         }
-        replay_section(section, buffer);
+        replay_section(rt, input, section, buffer)?;
     }
+    Ok(())
 }
 
-// The array becomes a slice here, and not where it is made.
-fn replay(buffer: &mut [u8; 1048640]) {
-    replay_sections(buffer, MANY);
-}
-
-fn main() {
-    replay(&mut [0u8; 1048640]);
+fn main(rt: HostRuntime) -> io::Result<()> {
+    let mut buffer = vec![in rt.alloc(); 0u8; 1048640]?;
+    let mut input = BufReader::new(rt.alloc(), rt.reader())?;
+    replay_sections(&rt, &mut input, &mut buffer[..], MANY)
 }

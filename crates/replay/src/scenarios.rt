@@ -7,28 +7,48 @@ use crate::section::{SCENARIO_SIZES, SCENARIO_TREES, Section};
 use crate::stream::least;
 use item::LIMIT;
 use scenario::ScenarioAnswer;
+use std::io;
 
-fn print_tree(work: &[u8], bytes: usize) {
-    print(b" tree");
-    print_front(work, bytes);
+fn print_tree(rt: &impl Print, work: &[u8], bytes: usize) -> io::Result<()> {
+    print(rt, b" tree")?;
+    print_front(rt, work, bytes)
 }
 
-fn print_record(record: &[u8], size: usize, lines: &[u32], steps: usize) {
-    print_ok();
-    print_front(record, size);
-    print(b" lines");
-    print_numbers(lines, steps);
+fn print_record(
+    rt: &impl Print,
+    record: &[u8],
+    size: usize,
+    lines: &[u32],
+    steps: usize,
+) -> io::Result<()> {
+    print_ok(rt)?;
+    print_front(rt, record, size)?;
+    print(rt, b" lines")?;
+    print_numbers(rt, lines, steps)
 }
 
-fn print_sizes(tree: usize, size: usize, lines: usize, steps: usize) {
-    print_ok();
-    print_spaced(tree);
-    print_spaced(size);
-    print_spaced(lines);
-    print_spaced(steps);
+fn print_sizes(
+    rt: &impl Print,
+    tree: usize,
+    size: usize,
+    lines: usize,
+    steps: usize,
+) -> io::Result<()> {
+    print_ok(rt)?;
+    print_spaced(rt, tree)?;
+    print_spaced(rt, size)?;
+    print_spaced(rt, lines)?;
+    print_spaced(rt, steps)
 }
 
-fn print_answer(kind: usize, answer: ScenarioAnswer, work: &[u8], record: &[u8], lines: &[u32]) {
+fn print_answer(
+    rt: &impl Print,
+    kind: usize,
+    answer: ScenarioAnswer,
+    work: &[u8],
+    record: &[u8],
+    lines: &[u32],
+) -> io::Result<()> {
     match answer {
         ScenarioAnswer::Read {
             tree_bytes,
@@ -37,68 +57,74 @@ fn print_answer(kind: usize, answer: ScenarioAnswer, work: &[u8], record: &[u8],
             steps,
         } => {
             if kind == SCENARIO_SIZES {
-                print_sizes(tree_bytes, record_bytes, line_bytes, steps);
+                print_sizes(rt, tree_bytes, record_bytes, line_bytes, steps)?;
             } else {
-                print_record(record, record_bytes, lines, steps);
+                print_record(rt, record, record_bytes, lines, steps)?;
             }
             if kind == SCENARIO_TREES {
-                print_tree(work, tree_bytes);
+                print_tree(rt, work, tree_bytes)?;
             }
-            print_other(work, tree_bytes, 7);
-            print_other(record, record_bytes, 7);
-            print_other_numbers(lines, steps, 7);
+            print_other(rt, work, tree_bytes, 7)?;
+            print_other(rt, record, record_bytes, 7)?;
+            print_other_numbers(rt, lines, steps, 7)
         }
         ScenarioAnswer::Refused(e) => {
-            print_refusal(e);
-            print_other(work, 0, 0);
-            print_other(record, 0, 0);
-            print_other_numbers(lines, 0, 0);
+            print_refusal(rt, e)?;
+            print_other(rt, work, 0, 0)?;
+            print_other(rt, record, 0, 0)?;
+            print_other_numbers(rt, lines, 0, 0)
         }
     }
 }
 
-fn print_in(kind: usize, text: &[u8], work: &mut [u8], record: &mut [u8], lines: &mut [u32]) {
+fn print_in(
+    rt: &impl Print,
+    kind: usize,
+    text: &[u8],
+    work: &mut [u8],
+    record: &mut [u8],
+    lines: &mut [u32],
+) -> io::Result<()> {
     let answer = scenario::read_scenario(text, work, record, lines);
-    print_answer(kind, answer, work, record, lines);
+    print_answer(rt, kind, answer, work, record, lines)
 }
 
 // As much is lent as the section says, or all.
 fn print_in_parts(
+    rt: &impl Print,
     section: Section,
     text: &[u8],
     work: &mut [u8],
     record: &mut [u8],
     lines: &mut [u32],
-) {
+) -> io::Result<()> {
     let bytes = least(section.first, work.len());
     let size = least(section.second, record.len());
     let places = least(section.third, lines.len());
     print_in(
+        rt,
         section.kind,
         text,
         &mut work[0..bytes],
         &mut record[0..size],
         &mut lines[0..places],
-    );
+    )
 }
 
-// The arrays become slices here, and not where they are made.
-fn print_in_arrays(
+pub(crate) fn print_scenario<R: Print + AllocGlobal>(
+    rt: &R,
     section: Section,
     text: &[u8],
-    work: &mut [u8; LIMIT],
-    record: &mut [u8; LIMIT],
-    lines: &mut [u32; 262144],
-) {
-    print_in_parts(section, text, work, record, lines);
-}
-
-pub(crate) fn print_scenario(section: Section, text: &[u8]) {
-    print_in_arrays(
+) -> io::Result<()> {
+    let mut work = vec![in rt.alloc(); 7u8; LIMIT]?;
+    let mut record = vec![in rt.alloc(); 7u8; LIMIT]?;
+    let mut lines = vec![in rt.alloc(); 7u32; 262144]?;
+    print_in_parts(
+        rt,
         section,
         text,
-        &mut [7u8; LIMIT],
-        &mut [7u8; LIMIT],
-        &mut [7u32; 262144],
-    );
+        &mut work[..],
+        &mut record[..],
+        &mut lines[..],
+    )
 }

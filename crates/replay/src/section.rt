@@ -1,5 +1,7 @@
 // A section of the stream: its kind, three numbers, its texts, and END.
 use crate::stream::next_number;
+use std::io;
+use std::io::Read;
 
 // Items at the ends of their ranges. It has no texts and no END.
 pub(crate) const ITEMS: usize = 0;
@@ -40,7 +42,7 @@ pub(crate) const SHARES: usize = 16;
 // three lists, then the times of the hammers and of the sounds.
 pub(crate) const LOGS: usize = 17;
 
-#[derive(Drop)]
+#[derive(Clone, Copy)]
 pub(crate) struct Section {
     pub(crate) kind: usize,
     pub(crate) first: usize,
@@ -48,11 +50,11 @@ pub(crate) struct Section {
     pub(crate) third: usize,
 }
 
-pub(crate) fn next_section() -> Section {
-    Section {
-        kind: next_number(),
-        first: next_number(),
-        second: next_number(),
-        third: next_number(),
-    }
+pub(crate) fn next_section(input: &mut impl Read) -> io::Result<Section> {
+    Ok(Section {
+        kind: next_number(input)?,
+        first: next_number(input)?,
+        second: next_number(input)?,
+        third: next_number(input)?,
+    })
 }

@@ -2,7 +2,8 @@
 ghost use Rattle.std.specs.Prelude.{◌≤◌, ◌<◌, length};
 
 use crate::print::wide;
-use libc::STDIN_FILENO;
+use std::io;
+use std::io::{ErrorKind, Read};
 
 // Ends a section where a text could follow.
 pub(crate) const END: usize = 4294967295;
@@ -45,23 +46,36 @@ pub(crate) fn put_numbers(text: &[u8], from: usize, numbers: &mut [u32])
     }
 }
 
-// END where the stream ends.
-pub(crate) fn next_number() -> usize {
-    let mut bytes = [0u8; 4];
-    if io::read_full(STDIN_FILENO, &mut bytes) < 4 {
-        return END;
+// Whether there are as many bytes as places.
+fn read_full(input: &mut impl Read, bytes: &mut [u8]) -> io::Result<bool> {
+    match input.read_exact(bytes) {
+        Ok(()) => Ok(true),
+        Err(e) => {
+            if e.kind() == ErrorKind::UnexpectedEof {
+                return Ok(false);
+            }
+            Err(e)
+        }
     }
-    number_at(&bytes, 0)
+}
+
+// END where the stream ends.
+pub(crate) fn next_number(input: &mut impl Read) -> io::Result<usize> {
+    let mut bytes = [0u8; 4];
+    if !read_full(input, &mut bytes)? {
+        return Ok(END);
+    }
+    Ok(number_at(&bytes, 0))
 }
 
 // The next text is put at the front of the buffer, and its length answered; more than the buffer's where the section or the stream
 // ends, or where the text is too long for it.
-pub(crate) fn next_text(buffer: &mut [u8]) -> usize {
-    let n = next_number();
+pub(crate) fn next_text(input: &mut impl Read, buffer: &mut [u8]) -> io::Result<usize> {
+    let n = next_number(input)?;
     if n <= buffer.len() {
-        if io::read_full(STDIN_FILENO, &mut buffer[0..n]) < n {
-            return END;
+        if !read_full(input, &mut buffer[0..n])? {
+            return Ok(END);
         }
     }
-    n
+    Ok(n)
 }

@@ -3,62 +3,68 @@ use crate::print::{
     print_byte, print_number, print_ok, print_other, print_refusal, print_spaced, print_written,
 };
 use item::LIMIT;
+use refusal::Refusal;
+use std::io;
 use tree::TreeAnswer;
 
-fn print_answer(answer: TreeAnswer, work: &[u8]) {
+fn print_answer(rt: &impl Print, answer: TreeAnswer, work: &[u8]) -> io::Result<()> {
     match answer {
         TreeAnswer::Read { bytes } => {
-            print_ok();
-            print_written(work, bytes);
+            print_ok(rt)?;
+            print_written(rt, work, bytes)
         }
         TreeAnswer::Refused(e) => {
-            print_refusal(e);
-            print_other(work, 0, 0);
+            print_refusal(rt, e)?;
+            print_other(rt, work, 0, 0)
         }
     }
 }
 
-// The array becomes a slice here, and not where it is made.
-fn print_tree_in(text: &[u8], work: &mut [u8; LIMIT]) {
-    print_answer(tree::read_tree(text, work), work);
+fn print_tree_in(rt: &impl Print, text: &[u8], work: &mut [u8]) -> io::Result<()> {
+    print_answer(rt, tree::read_tree(text, work), work)
 }
 
-pub(crate) fn print_tree(text: &[u8]) {
-    print_tree_in(text, &mut [7u8; LIMIT]);
+pub(crate) fn print_tree<R: Print + AllocGlobal>(rt: &R, text: &[u8]) -> io::Result<()> {
+    let mut work = vec![in rt.alloc(); 7u8; LIMIT]?;
+    print_tree_in(rt, text, &mut work[..])
 }
 
 // Whether the work was too short.
-fn is_short(answer: TreeAnswer, work: &[u8]) -> bool {
+fn is_short(rt: &impl Print, answer: &TreeAnswer, work: &[u8]) -> io::Result<bool> {
     match answer {
-        TreeAnswer::Read { bytes: _ } => false,
+        TreeAnswer::Read { bytes: _ } => Ok(false),
         TreeAnswer::Refused(e) => {
-            print_other(work, 0, 0);
-            e.told().number == 50
+            print_other(rt, work, 0, 0)?;
+            match e {
+                Refusal::WorkTooShort => Ok(true),
+                _ => Ok(false),
+            }
         }
     }
 }
 
-fn print_size(lent: usize, answer: TreeAnswer) {
-    print_number(lent);
-    print_byte(b' ');
+fn print_size(rt: &impl Print, lent: usize, answer: TreeAnswer) -> io::Result<()> {
+    print_number(rt, lent)?;
+    print_byte(rt, b' ')?;
     match answer {
         TreeAnswer::Read { bytes } => {
-            print_ok();
-            print_spaced(bytes);
+            print_ok(rt)?;
+            print_spaced(rt, bytes)
         }
-        TreeAnswer::Refused(e) => print_refusal(e),
+        TreeAnswer::Refused(e) => print_refusal(rt, e),
     }
 }
 
-fn print_least_of(text: &[u8], work: &mut [u8]) {
+fn print_least_of(rt: &impl Print, text: &[u8], work: &mut [u8]) -> io::Result<()> {
     for n in 0..work.len() {
         let answer = tree::read_tree(text, &mut work[0..n]);
-        if !is_short(answer, &work[0..n]) {
-            return print_size(n, answer);
+        if !is_short(rt, &answer, &work[0..n])? {
+            return print_size(rt, n, answer);
         }
     }
+    Ok(())
 }
 
-pub(crate) fn print_least(text: &[u8]) {
-    print_least_of(text, &mut [7u8; 1024]);
+pub(crate) fn print_least(rt: &impl Print, text: &[u8]) -> io::Result<()> {
+    print_least_of(rt, text, &mut [7u8; 1024])
 }

@@ -1,8 +1,10 @@
 // Runs utf8 over every code point, over sequences of boundary bytes, and over the parts of sequences of white and other pieces,
 // and prints what it finds: where answers change, how many are accepted, and hashes of all answers.
+#![tactic(auto)]
+
 ghost use Rattle.std.specs.Prelude.{◌+◌, ◌≤◌};
 
-use libc::STDOUT_FILENO;
+use std::io;
 
 // Bytes at which RFC 3629's ranges begin and end, with their neighbours.
 const EDGES: [u8; 24] = [
@@ -72,27 +74,22 @@ fn white(bytes: &[u8; 4], n: usize) -> bool
     utf8::white_at(bytes, 0, n) == n
 }
 
-fn say(text: &[u8], n: u64) {
-    io::write_all(STDOUT_FILENO, text);
-    io::print_decimal(STDOUT_FILENO, n);
-    io::write_all(STDOUT_FILENO, b"\n");
+fn say(rt: &impl Print, text: &str, n: u64) -> io::Result<()> {
+    println!(rt; "{text} {n}")
 }
 
-fn say_hex(text: &[u8], n: u32) {
-    io::write_all(STDOUT_FILENO, text);
-    io::print_hex(STDOUT_FILENO, n as u64, 4);
-    io::write_all(STDOUT_FILENO, b"\n");
+fn say_hex(rt: &impl Print, text: &str, n: u32) -> io::Result<()> {
+    println!(rt; "{text} {n:04x}")
 }
 
-fn say_change(is: bool, was: bool, c: u32) {
+fn say_change(rt: &impl Print, is: bool, was: bool, c: u32) -> io::Result<()> {
     if is == was {
-        return;
+        return Ok(());
     }
     if is {
-        say_hex(b"accepted from ", c);
-    } else {
-        say_hex(b"refused from ", c);
+        return say_hex(rt, "accepted from", c);
     }
+    say_hex(rt, "refused from", c)
 }
 
 fn bit(b: bool) -> u64 {
@@ -100,24 +97,25 @@ fn bit(b: bool) -> u64 {
 }
 
 // Prints where the answers change. How many code points are accepted.
-fn say_runs() -> u64 {
+fn say_runs(rt: &impl Print) -> io::Result<u64> {
     let mut was = false;
     let mut n: u64 = 0;
     for c in 0u32..0x120000 {
         let is = accepted(&encode(c), size(c));
-        say_change(is, was, c);
+        say_change(rt, is, was, c)?;
         was = is;
         n = std::num::wrapping_add_u64(n, bit(is));
     }
-    n
+    Ok(n)
 }
 
-fn say_whites() {
+fn say_whites(rt: &impl Print) -> io::Result<()> {
     for c in 0u32..0x120000 {
         if white(&encode(c), size(c)) {
-            say_hex(b"white ", c);
+            say_hex(rt, "white", c)?;
         }
     }
+    Ok(())
 }
 
 fn edge(k: usize) -> u8 {
@@ -138,7 +136,7 @@ fn mix(hash: u64, n: u64) -> u64 {
     (hash % 0x100000000 * 31 + n % 0x100000000) % 0x100000000
 }
 
-fn say_edges(len: usize, total: usize)
+fn say_edges(rt: &impl Print, len: usize, total: usize) -> io::Result<()>
     requires { len ≤ 4 }
 {
     let mut n: u64 = 0;
@@ -148,8 +146,8 @@ fn say_edges(len: usize, total: usize)
         n = std::num::wrapping_add_u64(n, b);
         hash = mix(hash, b);
     }
-    say(b"sequences of boundary bytes accepted ", n);
-    say(b"hash ", hash);
+    say(rt, "sequences of boundary bytes accepted", n)?;
+    say(rt, "hash", hash)
 }
 
 fn width(piece: u32) -> usize
@@ -214,13 +212,14 @@ fn hash_trims() -> u64 {
     hash
 }
 
-fn main() {
-    say(b"accepted ", say_runs());
-    say_whites();
-    say_edges(0, 1);
-    say_edges(1, 24);
-    say_edges(2, 576);
-    say_edges(3, 13824);
-    say_edges(4, 331776);
-    say(b"trims, hash ", hash_trims());
+fn main(rt: HostRuntime) -> io::Result<()> {
+    let accepted = say_runs(&rt)?;
+    say(&rt, "accepted", accepted)?;
+    say_whites(&rt)?;
+    say_edges(&rt, 0, 1)?;
+    say_edges(&rt, 1, 24)?;
+    say_edges(&rt, 2, 576)?;
+    say_edges(&rt, 3, 13824)?;
+    say_edges(&rt, 4, 331776)?;
+    say(&rt, "trims, hash", hash_trims())
 }

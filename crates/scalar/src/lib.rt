@@ -1,5 +1,7 @@
 // One line's scalars, and the search for a key's end (document 01, section 2). A reader is lent the part of a line that it reads,
 // as `s`, and the work bytes, as `out`, of which the first `at` are used.
+#![tactic(auto)]
+
 mod key;
 mod plain_text;
 mod quoted_text;

@@ -12,7 +12,7 @@ use super::{Parsed, Role};
 use item::{copy, put_header};
 use refusal::Refusal;
 
-#[derive(Drop)]
+#[derive(Clone, Copy)]
 enum Quote {
     Single,
     Double,

@@ -1,5 +1,7 @@
 // The main job: the scenario of a text, its record and the lines of its steps (document 01, sections 4 and 5). A tree is read where
 // it stands in its bytes. The record is written from the front as far as it fits and summed beyond that, so that one walk serves.
+#![tactic(auto)]
+
 ghost use Rattle.std.specs.Prelude.{◌≡◌, ◌≤◌, ◌<◌, ◌^◌, length, set};
 ghost use Rattle.item.specs.Tree.{Yaml, Items, Ranged};
 ghost use Rattle.item.specs.Encode.{encode};

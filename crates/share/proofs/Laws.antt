@@ -94,7 +94,7 @@ unfolding round up_to gots sum
 round_whole t rest [] h = refl
 round_whole t rest (w ∷ ws) h =
     let turn = whole-turn _ _ (served rest w t) (up_to-more t (suc t) ws (omega arith)) h in
-    rw (turn.0, round_whole t _ ws turn.1)
+    rw (turn.0, round_whole t (rest - stroke rest (record { wish = w; got = min w t })) ws turn.1)
 
 -- with no more than a whole one takes, all that is left goes out
 part-turn : {rest s before after : ℕ} (have want : ℕ) → Served rest s before after → have ≤ want → before + have + rest ≤ after + want → have + (rest - s) ≤ want
@@ -108,7 +108,7 @@ unfolding round up_to gots sum
 round-part t rest [] h = omega arith
 round-part t rest (w ∷ ws) h =
     let v = served rest w t in
-    part-sum _ _ v (round-part t _ ws (part-turn _ _ v (up_to-more t (suc t) ws (omega arith)) h))
+    part-sum _ _ v (round-part t (rest - stroke rest (record { wish = w; got = min w t })) ws (part-turn _ _ v (up_to-more t (suc t) ws (omega arith)) h))
 
 -- with nothing left, or nobody who wants, nothing changes
 pub round-none : (ds : List Drum) → round 0 ds ≡ ds

@@ -7,7 +7,7 @@ use mathlib.Core.List.{List, [], ◌∷◌, ◌++◌}
 use lib.ListN.{length, get_or, replicate, length-append, length-replicate, get_or-append}
 use Rattle.refusal.specs.Base.{good}
 use Rattle.refusal.proofs.Tools.{good-inj, refused≢good, split}
-use Rattle.share.specs.Share.{Drum, gots, sum, up_to, round, shares, eight, greatest, share, Fair, Beat, AllFair}
+use Rattle.share.specs.Share.{Drum, gots, sum, up_to, stroke, round, shares, eight, greatest, share, Fair, Beat, AllFair}
 use Rattle.share.specs.Contract.{Whole}
 use Rattle.share.proofs.Laws.{stroke-is, up_to-none, up_to-wished, full-sum, round-part, full-final, first-reaches, shares-are}
 use Rattle.share.proofs.Laws.{no-drum, too_many, too_much, too-little, shared}
@@ -32,7 +32,7 @@ zeros-at (n ∷ ns) k (suc i) h = zeros-at ns k i (omega arith)
 round-long : (n rest : ℕ) (ws : List ℕ) → length (gots (round rest (up_to n ws))) ≡ length ws
 unfolding gots round up_to
 round-long n rest [] = refl
-round-long n rest (w ∷ ws) = ap suc (round-long n _ ws)
+round-long n rest (w ∷ ws) = ap suc (round-long n (rest - stroke rest (record { wish = w; got = min w n })) ws)
 
 -- a drum has what the whole rounds give it, and one stroke more if it wants it
 round-at : (n rest : ℕ) (ws : List ℕ) (i : ℕ) → i < length ws →
@@ -40,7 +40,7 @@ round-at : (n rest : ℕ) (ws : List ℕ) (i : ℕ) → i < length ws →
 unfolding gots round up_to
 round-at n rest [] i h = absurd (omega arith)
 round-at n rest (w ∷ ws) zero h = let s = stroke-is rest (record { wish = w; got = min w n }) in (omega arith, omega arith)
-round-at n rest (w ∷ ws) (suc i) h = round-at n _ ws i (omega arith)
+round-at n rest (w ∷ ws) (suc i) h = round-at n (rest - stroke rest (record { wish = w; got = min w n })) ws i (omega arith)
 
 greatest-at : (ws : List ℕ) (i : ℕ) → get_or ws i 0 ≤ greatest ws
 unfolding greatest

@@ -1,4 +1,6 @@
 // Several drums on one supply (document 02, P11): the strokes that each gets of what the supply allows in a beat.
+#![tactic(auto)]
+
 ghost use Rattle.std.specs.Prelude.{◌≡◌, ◌≤◌, min, max, length, replicate};
 ghost use Rattle.share.specs.Share as definition;
 ghost use Rattle.share.specs.Share.{gots, sum, up_to, round, eight, greatest, numbers_of, answer_of};

@@ -192,12 +192,12 @@ inside_on s f w key value k h i = record {
 
 -- ---- how many commands
 
-pub not-one : (s : List ℕ) (cs : Entries) (c : Command) → OneOf (0 ∷ 2 ∷ []) (tag_of the_type c) → AgreesCommand s cs c → (n : ℕ) → command_of n cs ≡ refused 34 0 n
+pub not-one : (s : List ℕ) (cs : Entries) (c : Command) → ((key value : ℕ) → c ≡ One key value → ⊥) → AgreesCommand s cs c → (n : ℕ) → command_of n cs ≡ refused 34 0 n
 not-one s cs Nothing o a = a
-not-one s cs (One key value) o a = absurd (⊎_elim (λ z. omega arith) (λ z. omega arith) o)
+not-one s cs (One key value) o a = absurd (o key value refl)
 not-one s cs More o a = a
 
-pub one_more : (c : Command) (b : Bool) (key value : ℕ) → b ≡ false → OneOf (1 ∷ 2 ∷ []) (tag_of the_type c) → More ≡ command_with c b key value
-one_more Nothing b key value e o = absurd (⊎_elim (λ z. omega arith) (λ z. omega arith) o)
+pub one_more : (c : Command) (b : Bool) (key value : ℕ) → b ≡ false → (c ≡ Nothing → ⊥) → More ≡ command_with c b key value
+one_more Nothing b key value e o = absurd (o refl)
 one_more (One k v) b key value e o = rw e
 one_more More b key value e o = rw e

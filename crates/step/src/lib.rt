@@ -1,5 +1,7 @@
 // A step in the bytes of its mapping (document 01, section 4): read as the places of its parts, which writes nothing, and written from
 // them as its item (section 5). Its seven parts take at most 2 ^ 21 bytes each, so a step takes less than 2 ^ 24.
+#![tactic(auto)]
+
 ghost use Rattle.std.specs.Prelude.{◌≡◌, ◌++◌, ◌+◌, ◌*◌, ◌≤◌, ◌^◌, length};
 ghost use Rattle.std.proofs.Math.Option.{Option};
 ghost use Rattle.item.specs.Tree.{Yaml, Entries, bool, Ranged};
@@ -19,7 +21,7 @@ use nodes::{Part, close, put_found, put_optional, put_text, put_value};
 use refusal::Refusal;
 
 // Where the parts of a step stand. The text of the command's key goes from `key` to `value`, where the item of its value begins.
-#[derive(Drop)]
+#[derive(Clone, Copy)]
 pub struct StepPlaces {
     pub name: Found,
     pub id: Found,

@@ -1,4 +1,6 @@
 // The lines of steps, from the table of a text's lines (document 01, section 4).
+#![tactic(auto)]
+
 ghost use Rattle.std.specs.Prelude.{◌≡◌, ◌≤◌, ◌<◌, drop};
 ghost use Rattle.lines.specs.Table.{table_lines, line_at};
 ghost use Rattle.lines.specs.Ready.{Ready};

@@ -1,6 +1,8 @@
 // The top keys of a scenario in the bytes of its tree (document 01, section 4): where their parts stand, and from there the fields of
 // its record. Reading writes nothing, and writing refuses nothing. Of at most 2 ^ 20 items each is written in at most 2 ^ 21 bytes, so
 // the fields take less than 2 ^ 42.
+#![tactic(auto)]
+
 ghost use Rattle.std.specs.Prelude.{◌≡◌, ◌+◌, ◌*◌, ◌-◌, ◌≤◌, ◌^◌, length};
 ghost use Rattle.std.proofs.Math.Option.{Option};
 ghost use Rattle.utf8.specs.Part.{part};
@@ -31,7 +33,7 @@ struct Value {
 }
 
 // Where items stand one behind another.
-#[derive(Drop)]
+#[derive(Clone, Copy)]
 pub struct Range {
     pub from: usize,
     pub to: usize,
@@ -60,7 +62,7 @@ enum Default {
 }
 
 // Where the parts of a scenario stand.
-#[derive(Drop)]
+#[derive(Clone, Copy)]
 pub struct TopPlaces {
     pub name: Found,
     pub description: Found,

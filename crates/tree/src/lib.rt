@@ -1,4 +1,6 @@
 // The first job: the tree of a whole text (document 01, sections 1 to 3).
+#![tactic(auto)]
+
 ghost use Rattle.std.specs.Prelude.{◌≡◌, ◌≤◌, min, ◌^◌, length};
 ghost use Rattle.lines.specs.Table.{table_lines};
 ghost use Rattle.lines.specs.Ready.{Ready};

@@ -1,5 +1,7 @@
 // UTF-8 as RFC 3629 has it, and white space as document 01 has it. A text is any bytes, and a part of one runs from a place
 // up to another.
+#![tactic(auto)]
+
 ghost use Rattle.std.specs.Prelude.{◌≡◌, true, [], ◌+◌, ◌≤◌, ◌<◌, length};
 ghost use Rattle.utf8.specs.Utf8.{is_utf8};
 ghost use Rattle.utf8.specs.White.{white1, white2, white3, in2000, white_len, leading, trim_end, trim};

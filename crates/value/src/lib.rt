@@ -1,5 +1,7 @@
 // Values as a record holds them: items of kinds 0 to 5 that are trees within the rules of document 01, section 5. The content of
 // an item is lent as a slice of its own; `levels` collections may be open in it, one in another.
+#![tactic(auto)]
+
 ghost use Rattle.std.specs.Prelude.{◌≡◌, ◌≤◌, ◌<◌, ◌^◌, length};
 ghost use Rattle.value.specs.Tree.{tree, accepts, accepts_items, accepts_entries};
 ghost use Rattle.value.specs.Walks.{Walks, EntryFollows};

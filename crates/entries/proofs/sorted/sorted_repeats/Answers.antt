@@ -1,0 +1,7 @@
+use borrow.Author.Rules.{rules}
+use Prim.Native.Nat.{◌-◌}
+use Rattle.entries.proofs.Twice.{judged-all}
+use Rattle.entries.proofs.sorted.sorted_repeats.Goals as goal
+
+pub returns : goal.returns
+returns c = λ es h. judged-all (c.loop-at.invariant.1 es h) (search rules)

@@ -1,0 +1,14 @@
+-- The invariant: those that are left have a key twice if all of them have one twice. Assumes nothing.
+use mathlib.Core.Path.{◌≡◌}
+use Prim.Native.Nat.{◌-◌, ◌^◌}
+use lib.ListN.{length}
+use Rattle.item.specs.Tree.{Entries}
+use Rattle.entries.specs.Entries.{Lies}
+use Rattle.entries.specs.Contract.{LeftOver}
+use Rattle.entries.proofs.sorted.sorted_repeats.Given as goal
+
+abbrev pub invariant-loop-at : goal.invariant-loop-at
+invariant-loop-at l = (length l.run ≡ 2 ^ 11) × ((es : Entries) → Lies l.s l.from l.to es → LeftOver l.s l.to l.at es)
+
+abbrev pub decreases-loop-at : goal.decreases-loop-at
+decreases-loop-at l = l.to - l.at

@@ -1,0 +1,11 @@
+-- The invariant: what is read is what stands in the table, and what the scan gives of the lines that are left. Assumes nothing.
+use Prim.Native.Nat.{◌+◌, ◌-◌}
+use lib.ListN.{length}
+use Rattle.lines.proofs.ScanLaws.{Scanned}
+use Rattle.lines.proofs.fill.Given as goal
+
+abbrev pub invariant-loop-at : goal.invariant-loop-at
+invariant-loop-at l = Scanned l.text l.table l.at l.number l.count l.literal l.waiting
+
+abbrev pub decreases-loop-at : goal.decreases-loop-at
+decreases-loop-at l = length l.text + 1 - l.at

@@ -1,0 +1,8 @@
+-- The words are the literals. Assumes nothing.
+use Rattle.refusal.specs.Base.{bytes}
+use Rattle.meaning.specs.Meaning.{built_in_steps}
+use Rattle.meaning.proofs.is_built_in.Goals as goal
+
+pub returns : goal.returns
+unfolding bytes built_in_steps
+returns c = c.one_of_five.ensures

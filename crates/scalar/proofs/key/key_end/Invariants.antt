@@ -1,0 +1,13 @@
+-- The invariant: the search from here on finds what the search from the start finds. Assumes nothing.
+use mathlib.Core.Path.{◌≡◌}
+use Prim.Native.Nat.{◌≤◌, ◌-◌}
+use lib.ListN.{length, drop}
+use Rattle.scalar.specs.Key.{key_end, key_end_from}
+use Rattle.scalar.specs.Code.{Quoting}
+use Rattle.scalar.proofs.key.key_end.Given as goal
+
+abbrev pub invariant-loop-i : goal.invariant-loop-i
+invariant-loop-i l = (l.i ≤ length l.s) × (l.depth ≤ l.i) × Quoting l.q × (key_end_from l.q l.depth l.i (drop l.i l.s) ≡ key_end l.s)
+
+abbrev pub decreases-loop-i : goal.decreases-loop-i
+decreases-loop-i l = length l.s - l.i

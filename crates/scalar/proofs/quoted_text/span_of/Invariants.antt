@@ -1,0 +1,12 @@
+-- The invariant: `size` bytes of the string stand before the place. Assumes nothing.
+use Prim.Native.Nat.{ℕ, ◌+◌, ◌≤◌, ◌-◌}
+use lib.ListN.{length}
+use Rattle.scalar.specs.Code.{quoted_of}
+use Rattle.scalar.proofs.QuoteLaws.{Passed}
+use Rattle.scalar.proofs.quoted_text.span_of.Given as goal
+
+abbrev pub invariant-loop-next : goal.invariant-loop-next
+invariant-loop-next l = (l.i + l.size ≤ l.place) × (l.place ≤ length l.s) × ((cap : ℕ) → Passed cap l.line (quoted_of l.quote cap l.line) l.s l.i l.place l.size)
+
+abbrev pub decreases-loop-next : goal.decreases-loop-next
+decreases-loop-next l = length l.s - l.place

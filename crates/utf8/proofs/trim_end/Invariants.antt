@@ -1,0 +1,12 @@
+-- `trim_end` meets its contract: a white space character at the end is trimmed, and where none is, nothing is. Assumes nothing.
+use mathlib.Core.Path.{◌≡◌}
+use Prim.Native.Nat.{◌≤◌}
+use Rattle.utf8.specs.White.{trim_end}
+use Rattle.utf8.specs.Part.{part}
+use Rattle.utf8.proofs.trim_end.Given as goal
+
+abbrev pub invariant-loop-end : goal.invariant-loop-end
+invariant-loop-end l = (l.from ≤ l.end) × (l.end ≤ l.to) × (trim_end (part l.s l.from l.to) ≡ trim_end (part l.s l.from l.end))
+
+abbrev pub decreases-loop-end : goal.decreases-loop-end
+decreases-loop-end l = l.end
