@@ -10,7 +10,7 @@ use lib.Dec.{eqb}
 use lib.ListN.{length, take, drop, length-drop}
 use lib.Seq.{sets, length-sets}
 use borrow.Author.Tests.{eqb-true}
-use Rattle.refusal.specs.Base.{Answer, refused, bytes}
+use Rattle.refusal.specs.Base.{Answer, refused}
 use Rattle.refusal.specs.Told.{told_of}
 use Rattle.refusal.proofs.Tools.{chosen}
 use Rattle.refusal.specs.declared.Refusal.{Refusal}

@@ -29,14 +29,14 @@ use scalar::{Role, key_end};
 use utf8::{trim_start, trimmed};
 
 // What reading a key answers: the bytes of work that are used.
-#[derive(Drop)]
+#[derive(Clone, Copy)]
 pub enum KeyRead {
     Done(usize),
     Refused(Refusal),
 }
 
 // What reading an entry answers: the first line that is left, and the ends of the key's item and of the value's.
-#[derive(Drop)]
+#[derive(Clone, Copy)]
 pub enum EntryRead {
     Done {
         next: usize,
@@ -47,14 +47,14 @@ pub enum EntryRead {
 }
 
 // What a run over the entries of a mapping answers, and where the last entry that was read ends.
-#[derive(Drop)]
+#[derive(Clone, Copy)]
 pub struct EntriesRead {
     pub answer: BlockRead,
     pub used: usize,
 }
 
 // What a line begins with: a dash, a key that ends at a place, or neither, so that it is one flow value.
-#[derive(Drop)]
+#[derive(Clone, Copy)]
 pub enum Opening {
     Dash,
     Key(usize),
@@ -62,7 +62,7 @@ pub enum Opening {
 }
 
 // What stands behind a key's colon.
-#[derive(Drop)]
+#[derive(Clone, Copy)]
 pub enum Behind {
     Nothing,
     Literal,

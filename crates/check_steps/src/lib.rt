@@ -29,14 +29,14 @@ use utf8::is_utf8;
 use value::End;
 
 // What the check of the steps answers.
-#[derive(Drop)]
+#[derive(Clone, Copy)]
 pub enum StepsAnswer {
     Good { steps: usize },
     Refused(Refusal),
 }
 
 // Whether some steps are good. Bytes where no steps stand are no record; behind the check of the record there are none.
-#[derive(Drop)]
+#[derive(Clone, Copy)]
 enum Checked {
     Passed,
     Refused(Refusal),

@@ -21,7 +21,7 @@ use scenario::{ScenarioAnswer, read_scenario};
 use tree::{TreeAnswer, read_tree};
 
 // What comparing the records of two texts answers; neither where one of them was refused.
-#[derive(Drop)]
+#[derive(Clone, Copy)]
 pub enum Compared {
     Same,
     Different,

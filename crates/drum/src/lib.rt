@@ -1,6 +1,5 @@
-// The jobs of document 01, and of P11 and P12 of document 02, for programs in C and Rust. What is lent comes as a pointer and a length, but
-// for the eight numbers of a share; every answer is five numbers, told as far as there are places for them, of which the first is the
-// result too. include/drum.h says this to C.
+// The jobs of document 01, and of P11 and P12 of document 02, as `drum_c` exports them to programs in C and Rust: every answer is five
+// numbers, told as far as there are places for them, of which the first is the result too. include/drum.h says this to C.
 #![tactic(auto)]
 
 ghost use Rattle.std.specs.Prelude.{◌≡◌, [], ◌∷◌, length, set};

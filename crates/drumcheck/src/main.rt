@@ -1,6 +1,7 @@
 // Checks scenario texts as editors and linters do: for each file that an argument names it prints `FILE: ok, N steps`, or the file, the
-// line if there is one, the refusal's number and words, and the step if there is one. A file that cannot be read is named on standard
-// error with the reason, and the rest are still checked. It lends as much as drumread, so it accepts the same texts.
+// line if there is one, the refusal's number and words, and the step if there is one. A file that cannot be read, or whose name is not
+// UTF-8, is named on standard error with the reason, and the rest are still checked. It lends as much as drumread, so it accepts the same
+// texts.
 #![tactic(auto)]
 
 mod words;
@@ -91,10 +92,14 @@ fn check_file<R: Files + AllocGlobal + Print + Eprint>(rt: &R, path: &str) -> io
     }
 }
 
+// std opens files by names that are text.
 fn check_path<R: Files + AllocGlobal + Print + Eprint>(rt: &R, path: &[u8]) -> io::Result<()> {
     match str::from_utf8(path) {
         Ok(name) => check_file(rt, name),
-        Err(_) => eprintln!(rt; "drumcheck: a name that is not UTF-8"),
+        Err(_) => {
+            let shown = String::from_utf8_lossy(rt.alloc(), path)?;
+            eprintln!(rt; "{shown}: the name is not UTF-8")
+        }
     }
 }
 

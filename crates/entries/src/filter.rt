@@ -13,7 +13,7 @@ use item::Found;
 pub(crate) const WORDS: usize = 2048;
 
 // Whether a key stands twice, as far as bits and a few searches tell.
-#[derive(Drop)]
+#[derive(Clone, Copy)]
 enum Filtered {
     Twice,
     Once,

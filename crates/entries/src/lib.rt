@@ -15,14 +15,14 @@ pub use filter::repeats;
 use item::{Found, Header, equal_bytes, header_at};
 
 // An item by its places.
-#[derive(Drop)]
+#[derive(Clone, Copy)]
 pub enum Span {
     At { start: usize, end: usize },
     Nowhere,
 }
 
 // An entry: where its key's text begins and ends, which is where its value's item begins; the value's kind and its end.
-#[derive(Drop)]
+#[derive(Clone, Copy)]
 pub enum Pair {
     At {
         start: usize,

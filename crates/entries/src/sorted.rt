@@ -12,7 +12,7 @@ use crate::{Pair, pair_at};
 const PLACES: usize = 2097152;
 
 // Where a key stands beside another.
-#[derive(Drop)]
+#[derive(Clone, Copy)]
 enum Order {
     Below,
     Same,
@@ -20,14 +20,14 @@ enum Order {
 }
 
 // Where a key goes among others, unless it is one of them.
-#[derive(Drop)]
+#[derive(Clone, Copy)]
 enum Place {
     Taken,
     Free(usize),
 }
 
 // The keys of a chunk: one stands twice, or none does, and the entries behind the chunk begin at a place.
-#[derive(Drop)]
+#[derive(Clone, Copy)]
 enum Chunk {
     Twice,
     Behind(usize),
@@ -98,7 +98,7 @@ fn insert(run: &mut [usize; WORDS], count: usize, place: usize, word: usize)
 // The first entries are put in order, and those behind them are looked up.
 fn chunk_repeats(s: &[u8], from: usize, to: usize, run: &mut [usize; WORDS]) -> Chunk
     requires { (from < to) × (to ≤ length s.now) × (length s.now ≤ 2 ^ 20) × (length run.old ≡ 2 ^ 11) }
-    ensures run_len { (length run.new ≡ 2 ^ 11) × Goes from result }
+    ensures goes_on { (length run.new ≡ 2 ^ 11) × Goes from result }
     ensures agrees_chunk { (es : Entries) → Lies s.now from to es → AgreesChunk s.now to es result }
 {
     let mut count = 0;

@@ -20,11 +20,9 @@ use refusal::Refusal;
 use scalar::{Parsed, Role};
 
 // The place in a line that a reader has come to: the line's bytes, how many of them are read, and how many more collections may be
-// opened there. It holds a reference, so it is a value that is copied and never lent: a cursor that has gone on is another one, and the
-// line outlives both (`'a`). The prover does not walk a function that takes, makes or keeps such a value; each of these has a proof by
-// hand, statement by statement (proofs/Cursor, proofs/flow). So they are few, have no branch and no loop, and hand slice and numbers on
-// to functions that it does walk. Other crates call `flow`, whose parameters are plain.
-#[derive(Drop)]
+// opened there. It is a value that is copied and never lent: a cursor that has gone on is another one, and the line outlives both (`'a`).
+// Its functions are few, have no branch and no loop, and hand slice and numbers on. Other crates call `flow`, whose parameters are plain.
+#[derive(Clone, Copy)]
 pub struct Cursor<'a> {
     pub line: &'a [u8],
     pub at: usize,
@@ -32,28 +30,28 @@ pub struct Cursor<'a> {
 }
 
 // What reading an entry answers: the next place of the line, and the bytes of work that are used.
-#[derive(Drop)]
+#[derive(Clone, Copy)]
 pub enum PairRead {
     Done { next: usize, used: usize },
     Refused(Refusal),
 }
 
 // How the entries of a mapping end: closed before the next place of the line, or refused.
-#[derive(Drop)]
+#[derive(Clone, Copy)]
 pub enum End {
     Closed { next: usize },
     Refused(Refusal),
 }
 
 // What reading entries answers: the bytes of work that are used with those that were read, and how they end.
-#[derive(Drop)]
+#[derive(Clone, Copy)]
 pub struct EntriesRead {
     pub used: usize,
     pub end: End,
 }
 
 // What reading a whole part answers: the bytes of work that are used, and whether the value can be a key.
-#[derive(Drop)]
+#[derive(Clone, Copy)]
 pub enum Whole {
     Read { used: usize, key: bool },
     Refused(Refusal),

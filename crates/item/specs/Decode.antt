@@ -1,5 +1,5 @@
 -- Section 5 of document 01, kinds 0 to 5, read back: a tree of at most so many levels in front of a list of bytes, and what is left behind
--- it. Uses Base of `refusal`; Tree and Encode of this crate. Assumes nothing.
+-- it. Uses Tree and Encode of this crate. Assumes nothing.
 use Rattle.std.specs.Prelude.{ℕ, zero, suc, ◌-◌, ◌^◌, List, [], ◌∷◌, Bool, true, false, ◌&&◌, ltb, leb, eqb, length, take, drop, ℤ, pos, negsuc, if◌then◌else◌}
 use Rattle.std.proofs.Math.Option.{Option, none, some}
 use Rattle.item.specs.Tree.{Yaml, null, bool, int, str, seq, dict, Items, end, ◌▸◌, Entries, done, pair}

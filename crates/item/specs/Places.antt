@@ -1,5 +1,5 @@
--- Section 5 of document 01, for contracts: the item at a place of some bytes, by its header. Uses Base of `refusal`; Encode of this crate.
--- Assumes nothing.
+-- Section 5 of document 01, for contracts: the item at a place of some bytes, by its header. Uses Encode of this crate. Assumes
+-- nothing.
 use Rattle.std.specs.Prelude.{ℕ, ◌+◌, List, ltb, length, take, drop, if◌then◌else◌}
 use Rattle.item.specs.Encode.{number}
 use Rattle.item.specs.declared.Header.{Header}

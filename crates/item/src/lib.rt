@@ -12,7 +12,7 @@ ghost use Rattle.item.specs.Places.{header_at};
 pub const LIMIT: usize = 1048576;
 
 // What stands at a place of some bytes.
-#[derive(Drop)]
+#[derive(Clone, Copy)]
 pub enum Header {
     // An item, whose content is the part from `from` to `to`.
     Item { kind: usize, from: usize, to: usize },

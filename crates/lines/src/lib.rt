@@ -34,13 +34,13 @@ pub enum Place {
 }
 
 // Whether a literal is open, and under which indentation.
-#[derive(Drop)]
+#[derive(Clone, Copy)]
 pub enum Literal {
     Closed,
     Under(usize),
 }
 
-#[derive(Drop)]
+#[derive(Clone, Copy)]
 pub enum LinesAnswer {
     Read { count: usize },
     Refused(Refusal),
@@ -56,7 +56,7 @@ pub struct Raw {
 }
 
 // An entry of the table: its indentation, the start and the end of its text, and its line's number.
-#[derive(Drop)]
+#[derive(Clone, Copy)]
 pub struct Entry {
     pub indent: usize,
     pub start: usize,
@@ -65,7 +65,7 @@ pub struct Entry {
 }
 
 // What is known behind a line: how many entries there are, what is open, and how many blank lines of it wait.
-#[derive(Drop)]
+#[derive(Clone, Copy)]
 pub enum LineTaken {
     Next {
         count: usize,
@@ -76,7 +76,7 @@ pub enum LineTaken {
 }
 
 // How a line is read: normally, or as a blank or a body line of the literal that is open under an indentation.
-#[derive(Drop)]
+#[derive(Clone, Copy)]
 pub enum Way {
     Normal,
     Blank(usize),
@@ -116,7 +116,7 @@ fn skip_eights(text: &[u8], from: usize, to: usize, b: u8) -> usize
 // Where the first `b` of a part stands, or the part's end.
 fn find_byte(text: &[u8], from: usize, to: usize, b: u8) -> usize
     requires { (from ≤ to) × (to ≤ length text.now) }
-    ensures lower_bound { (from ≤ result) × (result ≤ to) × Lacks text.now from result b }
+    ensures place { (from ≤ result) × (result ≤ to) × Lacks text.now from result b }
     ensures found { result < to → get_or text.now result 0 ≡ b }
 {
     let mut i = skip_eights(text, from, to, b);
@@ -338,7 +338,8 @@ fn normal_line(text: &[u8], raw: Raw, table: &mut [u16], count: usize) -> LineTa
     if is_marker(significant) {
         return LineTaken::Refused(Refusal::DocumentMarker { line });
     }
-    if count == MOST_LINES {
+    let is_full = count == MOST_LINES;
+    if is_full {
         return LineTaken::Refused(Refusal::TooManyLines { line });
     }
     let indent = start - raw.from;

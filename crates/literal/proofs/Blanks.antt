@@ -11,7 +11,7 @@ use lib.ListN.{length, drop, replicate, length-append}
 use borrow.Author.Tests.{ltb-false}
 use Rattle.refusal.specs.Base.{good, ch, empty}
 use Rattle.lines.specs.Lines.{Line, significant_lines}
-use Rattle.lines.specs.Ready.{Closed, Ended, none, blank, full}
+use Rattle.lines.specs.Ready.{Closed, Ended, blank, full}
 use Rattle.lines.proofs.Ends.{lines_end, ended-drop}
 use Rattle.literal.specs.Literal.{is_blank, before_deeper, literal_line}
 

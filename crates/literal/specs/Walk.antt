@@ -1,5 +1,5 @@
--- Section 3 of document 01, for the contracts inside the crate: what the walks over the lines of a literal ask and promise. Uses Base of
--- `refusal`; Tree of `item`; Lines, Table and Ready of `lines`; Literal of this crate. Assumes nothing.
+-- Section 3 of document 01, for the contracts inside the crate: what the walks over the lines of a literal ask and promise. Uses Tree
+-- of `item`; Lines, Table and Ready of `lines`; Literal of this crate. Assumes nothing.
 use Rattle.std.specs.Prelude.{◌≡◌, ℕ, ◌+◌, ◌*◌, ◌≤◌, ◌<◌, List, Bool, eqb, length, drop, get_or, if◌then◌else◌}
 use Rattle.item.specs.Tree.{Yaml, str}
 use Rattle.lines.specs.Lines.{Line}

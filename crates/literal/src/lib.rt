@@ -18,14 +18,14 @@ use lines::entry_at;
 use refusal::Refusal;
 
 // What reading lines answers: the first line that is left, and the bytes of work that are used.
-#[derive(Drop)]
+#[derive(Clone, Copy)]
 pub enum BlockRead {
     Done { next: usize, used: usize },
     Refused(Refusal),
 }
 
 // The body of a literal: the first line behind it, and how many bytes its lines give.
-#[derive(Drop)]
+#[derive(Clone, Copy)]
 pub struct Body {
     pub next: usize,
     pub len: usize,

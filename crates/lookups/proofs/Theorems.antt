@@ -20,7 +20,7 @@ use Rattle.meaning.specs.Meaning.{Step, Meaning}
 use Rattle.meaning.specs.Record.{joined, step_item}
 use Rattle.meaning.specs.Rules.{Each, StepRules, IsRecord}
 use Rattle.value.proofs.Levels.{ranged}
-use Rattle.record.specs.Jobs.{Found, nothing, part, opened, part_at, numbered, steps_start, step, part_of}
+use Rattle.record.specs.Jobs.{Found, nothing, opened, part_at, numbered, steps_start, step, part_of}
 use Rattle.record.specs.Theorems.{Gives}
 use Rattle.record.proofs.Headers.{part-inside}
 use Rattle.record.proofs.Lookups.{length-steps, numbered-in}

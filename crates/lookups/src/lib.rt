@@ -21,7 +21,7 @@ use record::{Lookup, RecordAnswer, check_record, step};
 use refusal::Refusal;
 
 // What `times` answers.
-#[derive(Drop)]
+#[derive(Clone, Copy)]
 pub enum TimesAnswer {
     Times(u32),
     Refused(Refusal),
@@ -140,7 +140,8 @@ fn times_of(n: Integer, number: u32) -> TimesAnswer
     if negative {
         return TimesAnswer::Refused(Refusal::TimesNotPositive { step: number });
     }
-    if magnitude == 0 {
+    let is_zero = magnitude == 0;
+    if is_zero {
         return TimesAnswer::Refused(Refusal::TimesNotPositive { step: number });
     }
     if magnitude > 4294967295 {

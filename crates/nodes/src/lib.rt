@@ -22,21 +22,21 @@ use number::{int_len, put_int_text};
 use refusal::Refusal;
 
 // An integer by its sign and its magnitude.
-#[derive(Drop)]
+#[derive(Clone, Copy)]
 pub struct Integer {
     pub negative: bool,
     pub magnitude: u64,
 }
 
 // What rendering a value as key text answers: where the text's item ends.
-#[derive(Drop)]
+#[derive(Clone, Copy)]
 pub enum Rendered {
     Text(usize),
     NoScalar,
 }
 
 // What writing a part answers: where it ends.
-#[derive(Drop)]
+#[derive(Clone, Copy)]
 pub enum Part {
     Done(usize),
     Refused(Refusal),

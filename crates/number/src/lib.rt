@@ -8,7 +8,7 @@ ghost use Rattle.number.specs.Integers.{zero_first, digits, integer, decimal_of,
 ghost use Rattle.number.specs.Code.{int_of, bounded, minused};
 
 // An integer by its sign and its magnitude, or no integer.
-#[derive(Drop)]
+#[derive(Clone, Copy)]
 pub enum Number {
     Int { negative: bool, magnitude: u64 },
     No,

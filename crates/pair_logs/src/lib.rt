@@ -17,7 +17,7 @@ const MOST_TIMES: usize = 4096;
 const MOST_APART: u32 = 40;
 
 // How many pairs, lone hammers and lone sounds the lists hold; a pair takes two places.
-#[derive(Drop)]
+#[derive(Clone, Copy)]
 pub enum PairAnswer {
     Paired {
         pairs: usize,
@@ -28,7 +28,7 @@ pub enum PairAnswer {
 }
 
 // What becomes of the first unplaced of each log; or that one of them is below the time before it.
-#[derive(Drop)]
+#[derive(Clone, Copy)]
 enum Turn {
     Pair,
     LoneHammer,
@@ -37,7 +37,7 @@ enum Turn {
 }
 
 // The first unplaced of each log, the time before it, and the pairs so far.
-#[derive(Drop)]
+#[derive(Clone, Copy)]
 enum Walked {
     To {
         hammer: usize,

@@ -17,14 +17,14 @@ use refusal::Refusal;
 use value::{End, value_at};
 
 // What the check of a record answers.
-#[derive(Drop)]
+#[derive(Clone, Copy)]
 pub enum RecordAnswer {
     Good { steps: usize },
     Refused(Refusal),
 }
 
 // What a lookup answers: where the found item begins and ends in the record.
-#[derive(Drop)]
+#[derive(Clone, Copy)]
 pub enum Lookup {
     Found { start: usize, end: usize },
     Nothing,
@@ -32,7 +32,7 @@ pub enum Lookup {
 }
 
 // How many steps there are, where all is good.
-#[derive(Drop)]
+#[derive(Clone, Copy)]
 enum Count {
     Steps(usize),
     Bad,

@@ -1,5 +1,4 @@
 -- Every definition of a file of `specs/` opened at once, for proofs that compute with them. Assumes nothing.
-use Rattle.std.specs.Prelude.{if◌then◌else◌}
 use Rattle.refusal.specs.Base.{◌>>=◌, ◌>>◌, maybe, given, ensure, bytes, same, one_of, ends_with, empty}
 
 unfoldable pub Base-open : Unit {0}

@@ -1,4 +1,4 @@
--- The words that the definitions of every crate are written in: what a reading answers, a choice, byte strings, document 01's one limit on
+-- The words that the definitions of every crate are written in: what a reading answers, byte strings, document 01's one limit on
 -- bytes. Uses no other. Assumes nothing.
 use Rattle.std.specs.Prelude.{ℕ, List, [], ◌∷◌, Bool, true, false, ◌&&◌, ◌||◌, eqb}
 use Prim.Native.Char.{Char, code}

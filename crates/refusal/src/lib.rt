@@ -5,7 +5,7 @@
 ghost use Rattle.std.specs.Prelude.{◌≡◌};
 ghost use Rattle.refusal.specs.Told.{told, told_of};
 
-#[derive(Drop)]
+#[derive(Clone, Copy)]
 pub enum Refusal {
     TextTooLong,
     NotUtf8,
@@ -59,7 +59,7 @@ pub enum Refusal {
 }
 
 // What an answer names of a refusal, 0 where it names none.
-#[derive(Drop)]
+#[derive(Clone, Copy)]
 pub struct Told {
     pub number: u32,
     pub line: u32,

@@ -1,6 +1,6 @@
 -- Section 2 of document 01, for the contracts inside the crate: what the code's answers say in the words of the definitions, and plain text
 -- by its length. Uses Base and Told of `refusal`; Tree and Encode of `item`; Key and Read of this crate. Assumes nothing.
-use Rattle.std.specs.Prelude.{◌≡◌, ℕ, suc, ◌+◌, ◌≤◌, ◌<◌, List, [], ◌∷◌, Bool, true, false, ◌&&◌, ◌⊎◌, length, drop, if◌then◌else◌}
+use Rattle.std.specs.Prelude.{◌≡◌, ℕ, suc, ◌+◌, ◌≤◌, ◌<◌, List, [], ◌∷◌, Bool, false, ◌&&◌, ◌⊎◌, length, drop, if◌then◌else◌}
 use Rattle.std.proofs.Math.Option.{Option, none, some}
 use Rattle.std.proofs.lemmas.List.Edits.{sets}
 use Rattle.refusal.specs.Base.{Answer, good, ch}

@@ -12,14 +12,14 @@ pub use quoted_text::{double_quoted, single_quoted};
 use refusal::Refusal;
 
 // A value stands for itself, or in a key's place, where its text is what counts.
-#[derive(Drop)]
+#[derive(Clone, Copy)]
 pub enum Role {
     AsValue,
     AsKey,
 }
 
 // What a reader answers: the next place of the line, the bytes of work that are used, and whether the value can be a key.
-#[derive(Drop)]
+#[derive(Clone, Copy)]
 pub enum Parsed {
     Done { next: usize, used: usize, key: bool },
     Refused(Refusal),

@@ -17,7 +17,7 @@ use refusal::Refusal;
 use utf8::trimmed;
 
 // What a plain text says; a string is the text itself.
-#[derive(Drop)]
+#[derive(Clone, Copy)]
 enum Kind {
     Null,
     Bool(bool),

@@ -19,14 +19,14 @@ enum Quote {
 }
 
 // What an escape stands for.
-#[derive(Drop)]
+#[derive(Clone, Copy)]
 enum Escape {
     Byte(u8),
     Unknown,
 }
 
 // What stands at a place in quotes: a byte of the string, which runs up to `next`, or the closing quote, which stands before `next`.
-#[derive(Drop)]
+#[derive(Clone, Copy)]
 enum Piece {
     Byte { byte: u8, next: usize },
     Shut { next: usize },
@@ -34,7 +34,7 @@ enum Piece {
 }
 
 // Where a quoted string's closing quote ends, and how many bytes the string has.
-#[derive(Drop)]
+#[derive(Clone, Copy)]
 enum Span {
     Ends { next: usize, size: usize },
     Refused(Refusal),

@@ -24,14 +24,14 @@ use top::{Range, TopRead, put_top, read_top};
 use tree::{TreeRead, counted, read_with};
 
 // What writing steps answers: where they end, and how many there are.
-#[derive(Drop)]
+#[derive(Clone, Copy)]
 enum Steps {
     Done { end: usize, count: usize },
     Refused(Refusal),
 }
 
 // What reading a scenario answers: the bytes of each output, and how many steps there are.
-#[derive(Drop)]
+#[derive(Clone, Copy)]
 pub enum ScenarioAnswer {
     Read {
         tree_bytes: usize,

@@ -14,21 +14,21 @@ const MOST_DRUMS: usize = 8;
 // That a drum may wish for in a beat.
 const MOST_STROKES: u32 = 255;
 
-#[derive(Drop)]
+#[derive(Clone, Copy)]
 pub enum ShareAnswer {
     Given,
     Refused(Refusal),
 }
 
 // What eight drums get, in their order: 0 for those that are not there, and for all on a refusal.
-#[derive(Drop)]
+#[derive(Clone, Copy)]
 pub struct Shares {
     pub answer: ShareAnswer,
     pub strokes: [u32; 8],
 }
 
 // Whole rounds, and what is left for one that is not whole.
-#[derive(Drop)]
+#[derive(Clone, Copy)]
 struct Rounds {
     whole: u32,
     rest: u32,

@@ -2,13 +2,9 @@
 use Rattle.std.specs.Prelude.{if◌then◌else◌}
 use mathlib.Core.Path.{◌≡◌, refl, ap, sym, ◌∙◌}
 use Prim.Native.Nat.{ℕ, ◌-◌, ◌≤◌}
-use native.Mathlib.Omega.{arith}
-use mathlib.Core.List.{List, [], ◌∷◌}
+use mathlib.Core.List.{List}
 use mathlib.Core.Bool.{Bool, true, false, ◌||◌}
 use mathlib.Core.Option.{some}
-use mathlib.Core.Logic.{⊎_elim}
-use types.Run.{OneOf}
-use denote.Enum.Declared.{tag_of}
 use lib.ListN.{length, take, drop}
 use Rattle.refusal.specs.Base.{refused, one_of, same, bytes}
 use Rattle.item.specs.Tree.{Yaml, Entries, done, pair, get}
@@ -22,7 +18,6 @@ use Rattle.step.specs.declared.Command.{Command}
 use Rattle.step.specs.declared.Command.TheVariants.{Nothing, One, More}
 use Rattle.step.specs.declared.StepFields.{StepFields}
 use Rattle.step.specs.Contract.{EntryAt, AgreesCommand, CommandInside, field_with, command_with, AgreesFields, FieldsInside}
-use Rattle.step.specs.contracts.Command.{the_type}
 
 -- the key of a step field, test by test
 pub one_field : (w : List ℕ) → same w (bytes "name") || same w (bytes "id") || same w (bytes "timeout") || same w (bytes "continue_on_error") || same w (bytes "expect") ≡ one_of w step_fields

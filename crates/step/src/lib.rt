@@ -33,14 +33,14 @@ pub struct StepPlaces {
 }
 
 // What reading a step answers.
-#[derive(Drop)]
+#[derive(Clone, Copy)]
 pub enum StepRead {
     Step(StepPlaces),
     Refused(Refusal),
 }
 
 // The entries whose key is no step field: none, one, or more.
-#[derive(Drop)]
+#[derive(Clone, Copy)]
 enum Command {
     Nothing,
     One { key: usize, value: usize },
@@ -48,7 +48,7 @@ enum Command {
 }
 
 // What entries say: where the value of each step field stands, the first of its key, and the command.
-#[derive(Drop)]
+#[derive(Clone, Copy)]
 struct StepFields {
     name: Found,
     id: Found,
@@ -248,7 +248,7 @@ fn put_flag(out: &mut [u8], at: usize, flag: bool) -> usize
 
 fn put_names(s: &[u8], places: StepPlaces, out: &mut [u8], at: usize) -> usize
     requires { (length s.now ≤ 2 ^ 20) × (at + 2 ^ 23 ≤ 2 ^ 51) × (length out.old ≤ 2 ^ 20) }
-    ensures lower_bound { (at ≤ result) × (result ≤ at + 2 ^ 22) × (length out.new ≡ length out.old) }
+    ensures near { (at ≤ result) × (result ≤ at + 2 ^ 22) × (length out.new ≡ length out.old) }
     ensures names { (step : Step) → StepStands s.now step places
         → Stored out.old out.new at (text_item step.name ++ text_item step.id) result }
 {
@@ -261,7 +261,7 @@ fn put_names(s: &[u8], places: StepPlaces, out: &mut [u8], at: usize) -> usize
 fn put_command(s: &[u8], places: StepPlaces, out: &mut [u8], at: usize) -> usize
     requires { (length s.now ≤ 2 ^ 20) × (places.key ≤ places.value) × (places.value ≤ length s.now) × (at + 2 ^ 23 ≤ 2 ^ 51)
         × (length out.old ≤ 2 ^ 20) }
-    ensures lower_bound { (at ≤ result) × (result ≤ at + 2 ^ 22) × (length out.new ≡ length out.old) }
+    ensures near { (at ≤ result) × (result ≤ at + 2 ^ 22) × (length out.new ≡ length out.old) }
     ensures command { (step : Step) → StepStands s.now step places
         → Stored out.old out.new at (text_item step.key ++ encode step.value) result }
 {
@@ -274,7 +274,7 @@ fn put_command(s: &[u8], places: StepPlaces, out: &mut [u8], at: usize) -> usize
 // The timeout, whether to go on after an error, and what is expected.
 fn put_rest(s: &[u8], places: StepPlaces, out: &mut [u8], at: usize) -> usize
     requires { (length s.now ≤ 2 ^ 20) × (at + 2 ^ 23 ≤ 2 ^ 51) × (length out.old ≤ 2 ^ 20) }
-    ensures lower_bound { (at ≤ result) × (result ≤ at + 3 * 2 ^ 21) × (length out.new ≡ length out.old) }
+    ensures near { (at ≤ result) × (result ≤ at + 3 * 2 ^ 21) × (length out.new ≡ length out.old) }
     ensures fields { (step : Step) → StepStands s.now step places
         → Stored out.old out.new at
         (encode (optional step.timeout) ++ (encode (bool step.continue) ++ encode (expected step.expect))) result }
@@ -291,7 +291,7 @@ fn put_rest(s: &[u8], places: StepPlaces, out: &mut [u8], at: usize) -> usize
 fn put_step(s: &[u8], places: StepPlaces, out: &mut [u8], at: usize) -> usize
     requires { (length s.now ≤ 2 ^ 20) × (places.key ≤ places.value) × (places.value ≤ length s.now) × (at ≤ 2 ^ 50)
         × (length out.old ≤ 2 ^ 20) }
-    ensures lower_bound { (at ≤ result) × (result ≤ at + 2 ^ 24) × (length out.new ≡ length out.old) }
+    ensures near { (at ≤ result) × (result ≤ at + 2 ^ 24) × (length out.new ≡ length out.old) }
     ensures step { (step : Step) → StepStands s.now step places
         → Stored out.old out.new at (step_item step) result }
 {

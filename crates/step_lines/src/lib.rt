@@ -11,14 +11,14 @@ use item::same_bytes;
 use lines::{dash_at, entry_at, line_text};
 
 // Where the steps begin: the entry of the table, and its indentation.
-#[derive(Drop)]
+#[derive(Clone, Copy)]
 pub struct Dashes {
     pub at: usize,
     pub indent: usize,
 }
 
 // The line of a step, and the entry behind its dash.
-#[derive(Drop)]
+#[derive(Clone, Copy)]
 pub struct StepLine {
     pub line: u32,
     pub next: usize,

@@ -25,7 +25,7 @@ use nodes::{Rendered, close, put, put_found, put_optional, put_value, render};
 use refusal::Refusal;
 
 // A value by its kind and the places of its content.
-#[derive(Drop)]
+#[derive(Clone, Copy)]
 struct Value {
     kind: usize,
     from: usize,
@@ -40,21 +40,21 @@ pub struct Range {
 }
 
 // The items of a sequence, or that a value is none.
-#[derive(Drop)]
+#[derive(Clone, Copy)]
 enum Sequence {
     Items(Range),
     Other,
 }
 
 // Where the two defaults stand, or why they are refused.
-#[derive(Drop)]
+#[derive(Clone, Copy)]
 enum Defaults {
     Places { timeout: Found, wall_budget: Found },
     Refused(Refusal),
 }
 
 // Which default a key is.
-#[derive(Drop)]
+#[derive(Clone, Copy)]
 enum Default {
     Timeout,
     WallBudget,
@@ -76,7 +76,7 @@ pub struct TopPlaces {
 }
 
 // What reading the top keys answers.
-#[derive(Drop)]
+#[derive(Clone, Copy)]
 pub enum TopRead {
     Done(TopPlaces),
     Refused(Refusal),
@@ -322,7 +322,7 @@ fn put_sequence(s: &[u8], range: Range, out: &mut [u8], at: usize) -> usize
 // The texts of a sequence's scalars.
 fn put_tags(s: &[u8], range: Range, out: &mut [u8], at: usize) -> usize
     requires { RangeInside s.now range × (length s.now ≤ 2 ^ 20) × (at ≤ 2 ^ 50) × (length out.old ≤ 2 ^ 20) }
-    ensures lower_bound { (at ≤ result) × (result ≤ at + 6 + 2 ^ 21 * (range.to - range.from))
+    ensures near { (at ≤ result) × (result ≤ at + 6 + 2 ^ 21 * (range.to - range.from))
         × (length out.new ≡ length out.old) }
     ensures tags { (ys : Items) → Holds s.now range.from range.to ys
         → Stored out.old out.new at (tags_item (texts_of ys)) result }
@@ -350,7 +350,7 @@ fn put_tags(s: &[u8], range: Range, out: &mut [u8], at: usize) -> usize
 
 fn put_defaults(s: &[u8], timeout: Found, wall_budget: Found, out: &mut [u8], at: usize) -> usize
     requires { (length s.now ≤ 2 ^ 20) × (at ≤ 2 ^ 50) × (length out.old ≤ 2 ^ 20) }
-    ensures lower_bound { (at ≤ result) × (result ≤ at + 2 ^ 22 + 6) × (length out.new ≡ length out.old) }
+    ensures near { (at ≤ result) × (result ≤ at + 2 ^ 22 + 6) × (length out.new ≡ length out.old) }
     ensures defaults { (d : meaning.Defaults) → ReadsFound s.now scalar_text timeout d.timeout
         → ReadsFound s.now scalar_text wall_budget d.wall_budget
         → Stored out.old out.new at (defaults_item d) result }
@@ -364,7 +364,7 @@ fn put_defaults(s: &[u8], timeout: Found, wall_budget: Found, out: &mut [u8], at
 // The fields of a record before its steps.
 pub fn put_top(s: &[u8], top: TopPlaces, out: &mut [u8], at: usize) -> usize
     requires { (length s.now ≤ 2 ^ 20) × TopPlacesInside s.now top × (at ≤ 2 ^ 46) × (length out.old ≤ 2 ^ 20) }
-    ensures lower_bound { (at ≤ result) × (result ≤ at + 2 ^ 42) × (length out.new ≡ length out.old) }
+    ensures near { (at ≤ result) × (result ≤ at + 2 ^ 42) × (length out.new ≡ length out.old) }
     ensures fields { (t : Top) → TopStands s.now t top
         → Stored out.old out.new at (joined (top_fields t)) result }
 {

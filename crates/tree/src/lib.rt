@@ -19,14 +19,14 @@ use utf8::is_utf8;
 const LONGEST: usize = 65535;
 
 // What reading a tree answers: the bytes that it takes.
-#[derive(Drop)]
+#[derive(Clone, Copy)]
 pub enum TreeAnswer {
     Read { bytes: usize },
     Refused(Refusal),
 }
 
 // What reading a tree with its lines answers: the bytes that it takes, and how many lines there are.
-#[derive(Drop)]
+#[derive(Clone, Copy)]
 pub enum TreeRead {
     Done { bytes: usize, count: usize },
     Refused(Refusal),

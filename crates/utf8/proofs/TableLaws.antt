@@ -1,6 +1,5 @@
 -- What the table of UTF-8 says of a first byte, by where the byte lies. The rows are in the order of their first bytes, so those
 -- before a row and those behind it need one comparison each, which computes. Assumes nothing.
-use Rattle.std.specs.Prelude.{if◌then◌else◌}
 use mathlib.Core.Path.{◌≡◌, refl, ap, ◌∙◌}
 use mathlib.Core.List.{List, [], ◌∷◌}
 use mathlib.Core.Bool.{Bool, true, ◌&&◌}

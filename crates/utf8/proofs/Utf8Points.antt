@@ -1,6 +1,5 @@
 -- The table of RFC 3629, section 4, says what the bit layout of its section 3 says: a text is UTF-8 just where it is encoded code
 -- points, one behind the other, each of those that UTF-8 has. Assumes nothing.
-use Rattle.std.specs.Prelude.{if◌then◌else◌}
 use mathlib.Core.Path.{◌≡◌, refl, sym, ap, subst, ◌∙◌}
 use mathlib.Core.List.{List, [], ◌∷◌, ◌++◌}
 use mathlib.Core.Bool.{Bool, true, false, ◌&&◌, false≢true}

@@ -1,5 +1,5 @@
--- RFC 3629, section 3, and section 1 of document 01: code points, their UTF-8, and those that are white space. Uses Base of `refusal`; Utf8
--- of this crate. Assumes nothing.
+-- RFC 3629, section 3, and section 1 of document 01: code points, their UTF-8, and those that are white space. Uses Utf8 of this crate.
+-- Assumes nothing.
 use Rattle.std.specs.Prelude.{ℕ, ◌+◌, ◌/◌, ◌%◌, ◌^◌, List, [], ◌∷◌, Bool, false, ◌||◌, leb, if◌then◌else◌}
 use Rattle.utf8.specs.Utf8.{Range, ◌‥◌, within}
 

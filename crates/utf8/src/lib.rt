@@ -9,7 +9,7 @@ ghost use Rattle.utf8.specs.Part.{part};
 ghost use Rattle.utf8.specs.Contract.{due_of, on_of, Follows, Ends};
 
 // What must still come of a character: how many bytes, and where the next of them lies. Those behind it may be any tail.
-#[derive(Drop)]
+#[derive(Clone, Copy)]
 struct Due {
     left: u8,
     low: u8,
@@ -17,7 +17,7 @@ struct Due {
 }
 
 // What a byte leads to: more that must come, or no UTF-8.
-#[derive(Drop)]
+#[derive(Clone, Copy)]
 enum After {
     On(Due),
     Bad,

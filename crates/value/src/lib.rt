@@ -11,7 +11,7 @@ use item::{Header, header_at};
 use utf8::is_utf8;
 
 // Where an item ends that was looked for and found good.
-#[derive(Drop)]
+#[derive(Clone, Copy)]
 pub enum End {
     At(usize),
     Nowhere,

@@ -10,7 +10,7 @@ use Rattle.item.proofs.Size.{size}
 use Rattle.lines.specs.Lines.{Line}
 use Rattle.scalar.specs.Scalars.{key_text}
 use Rattle.block.specs.Block.{block}
-use Rattle.yaml.specs.Represent.{Graph, Rep, as_yaml, ◌▸◌}
+use Rattle.yaml.specs.Represent.{Graph, Rep, as_yaml}
 use Rattle.yaml.specs.Rows.{Row}
 use Rattle.yaml.specs.Block.{Block, b_flow, b_seq, b_map, i_last, i_more, Item, i_flow, i_null, i_block, i_map, Pairs, Entry, e_flow, e_null, e_block, e_literal}
 use Rattle.yaml.specs.Block as B

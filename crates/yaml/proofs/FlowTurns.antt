@@ -1,6 +1,5 @@
 -- Flow collections, turn by turn: how nodes begin, what follows them, and what the reader's loops do at a node, a pair, a comma and a close.
 -- Assumes nothing.
-use Rattle.std.specs.Prelude.{if◌then◌else◌}
 use mathlib.Core.Path.{◌≡◌, refl, sym, ap, ◌∙◌, subst}
 use Prim.Native.Nat.{ℕ, zero, suc, ◌+◌, ◌≤◌, ◌<◌}
 use native.Mathlib.Omega.{arith}

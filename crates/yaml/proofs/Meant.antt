@@ -1,5 +1,4 @@
 -- A scenario that is YAML means what section 4 of document 01 makes of YAML's tree (`Means`), and what that says of the main job. Assumes nothing.
-use Rattle.std.specs.Prelude.{if◌then◌else◌}
 use mathlib.Core.Path.{◌≡◌, refl, ap, ◌∙◌}
 use Prim.Native.Nat.{ℕ, suc, ◌≤◌, min, ◌^◌}
 use mathlib.Core.List.{List, [], ◌++◌}

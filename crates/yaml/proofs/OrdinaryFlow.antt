@@ -1,5 +1,4 @@
 -- Flow collections of ordinary scalars are ordinary: no key ends in one, and a comment can follow it. Assumes nothing.
-use Rattle.std.specs.Prelude.{if◌then◌else◌}
 use mathlib.Core.Path.{◌≡◌, refl}
 use mathlib.Core.Logic.{◌⊎◌, inl, inr, ⊎_elim}
 use Prim.Native.Nat.{ℕ, zero, suc}

@@ -1,6 +1,5 @@
 -- The whole: a text that is YAML, that document 01 keeps, and that is within the limits is read as YAML reads it (`Reads`). What it says of
 -- the job, and that no text has two trees. Assumes nothing.
-use Rattle.std.specs.Prelude.{if◌then◌else◌}
 use mathlib.Core.Path.{◌≡◌, refl, sym, ap, ◌∙◌, subst}
 use Prim.Native.Nat.{ℕ, zero, suc, ◌+◌, ◌≤◌, min, ◌^◌}
 use native.Mathlib.Omega.{arith}

@@ -1,15 +1,11 @@
 -- The third item, whether it is a known command, and whether it is `repeat`. Assumes nothing.
 use borrow.Author.Rules.{rules}
 use mathlib.Core.Path.{◌≡◌, sym, ap, ◌∙◌}
-use mathlib.Core.Bool.{true}
 use mathlib.Core.List.{List}
-use mathlib.Core.Option.{some}
-use Prim.Native.Nat.{ℕ, ◌+◌, ◌-◌}
-use lib.ListN.{take, drop}
+use Prim.Native.Nat.{ℕ, ◌+◌}
 use Rattle.refusal.specs.Base.{bytes, same}
 use Rattle.entries.specs.Entries.{nth_item}
 use Rattle.entries.specs.declared.Span.TheVariants.{At}
-use Rattle.check_steps.specs.Names.{filled}
 use Rattle.check_steps.specs.CheckSteps.{known}
 use native.Mathlib.Omega.{arith}
 use Rattle.record.proofs.StepPlaces.{nth_inside}

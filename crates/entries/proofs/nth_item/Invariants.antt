@@ -1,6 +1,5 @@
 -- The invariant: what is looked for from here is what was looked for at the start. Assumes nothing.
 use mathlib.Core.Path.{◌≡◌}
-use Prim.Native.Nat.{◌-◌}
 use Rattle.entries.specs.Entries.{nth_item}
 use Rattle.entries.proofs.nth_item.Given as goal
 

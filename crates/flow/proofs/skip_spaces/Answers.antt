@@ -1,6 +1,5 @@
 use borrow.Author.Rules.{rules}
 use mathlib.Core.Path.{refl, sym, ◌∙◌}
-use Prim.Native.Nat.{◌-◌}
 use Rattle.flow.proofs.Values.{spaces-end, spaces-here, spaces-on}
 use Rattle.flow.proofs.skip_spaces.Goals as goal
 

@@ -1,6 +1,6 @@
 -- The invariant: from `i` on, the strings are the same. Assumes nothing.
 use mathlib.Core.Path.{◌≡◌}
-use Prim.Native.Nat.{◌≤◌, ◌-◌}
+use Prim.Native.Nat.{◌≤◌}
 use lib.ListN.{length, drop}
 use Rattle.item.proofs.equal_bytes.Given as goal
 

@@ -1,5 +1,4 @@
 -- By the byte. Assumes nothing.
-use Rattle.std.specs.Prelude.{if◌then◌else◌}
 use borrow.Author.Tests.{ne_eqb}
 use Rattle.lines.specs.Lines.{place_after}
 use Rattle.lines.proofs.after_double.Goals as goal

@@ -1,7 +1,7 @@
 use borrow.Author.Rules.{rules}
 use mathlib.Core.Path.{◌≡◌, refl, sym, subst, ◌∙◌}
 use native.Mathlib.Omega.{arith}
-use Prim.Native.Nat.{ℕ, ◌-◌}
+use Prim.Native.Nat.{ℕ}
 use lib.ListN.{length, get_or}
 use Rattle.utf8.specs.Part.{part}
 use Rattle.refusal.specs.Base.{ch}
@@ -15,7 +15,7 @@ pub returns-then-find_byte-to : goal.returns-then-find_byte-to
 returns-then-find_byte-to c =
     let a = c.args in
     let f = c.find_byte in
-    let none : Lacks a.text.now a.from a.to (ch "#") = subst (λ (e : ℕ). Lacks a.text.now a.from e (ch "#")) c.if-find_byte-to.true f.ensures.lower_bound.2 in
+    let none : Lacks a.text.now a.from a.to (ch "#") = subst (λ (e : ℕ). Lacks a.text.now a.from e (ch "#")) c.if-find_byte-to.true f.ensures.place.2 in
     (strip-none a.text.now a.from a.to (search rules) (search rules) none, search rules)
 
 pub loop-i-init : goal.loop-i-init

@@ -1,7 +1,6 @@
 use borrow.Author.Rules.{rules}
 use mathlib.Core.Path.{◌≡◌}
 use native.Mathlib.Omega.{arith}
-use Prim.Native.Nat.{◌-◌}
 use Rattle.utf8.specs.Part.{part}
 use Rattle.lines.specs.Lines.{indent_of}
 use Rattle.lines.proofs.Laws.{indent-none, indent-here, indent-on}

@@ -1,5 +1,4 @@
 -- By the test. Assumes nothing.
-use Rattle.std.specs.Prelude.{if◌then◌else◌}
 use mathlib.Core.Path.{sym, ◌∙◌}
 use Rattle.lines.specs.Lines.{literal_of}
 use Rattle.lines.proofs.literal_after.Goals as goal

@@ -6,4 +6,4 @@ pub returns : goal.returns
 returns c =
     let a = c.args in
     let f = c.find_byte in
-    (newline-found a.text.now a.at f.result f.ensures.lower_bound.0 f.ensures.lower_bound.1 f.ensures.lower_bound.2 f.ensures.found, f.ensures.lower_bound.1)
+    (newline-found a.text.now a.at f.result f.ensures.place.0 f.ensures.place.1 f.ensures.place.2 f.ensures.found, f.ensures.place.1)

@@ -27,15 +27,15 @@ returns-then-is_marker c =
     let t = c.requires.2 in
     marker-stops a.text.now a.raw ok e.result sig t (omega (arith, c.if-end-start.false)) (omega arith) (2048 - a.count) (sym c.is_marker.ensures ∙ c.if-is_marker.true)
 
-pub returns-then-count-eq-MOST_LINES : goal.returns-then-count-eq-MOST_LINES
-returns-then-count-eq-MOST_LINES c =
+pub returns-then-is_full : goal.returns-then-is_full
+returns-then-is_full c =
     let a = c.args in
     let ok : IsRaw a.text.now a.raw = c.requires.1 in
     let m = c.comment_at in
     let e = c.trim_end-end in
     let sig = raw-significant a.text.now a.raw ok m.result e.result m.ensures.0 m.ensures.1 e.ensures.value in
     let t = c.requires.2 in
-    full-stops a.text.now a.raw ok e.result sig t (omega (arith, c.if-end-start.false)) (omega arith) (sym c.is_marker.ensures ∙ c.if-is_marker.false) (2048 - a.count) (omega (arith, c.if-count-eq-MOST_LINES.true))
+    full-stops a.text.now a.raw ok e.result sig t (omega (arith, c.if-end-start.false)) (omega arith) (sym c.is_marker.ensures ∙ c.if-is_marker.false) (2048 - a.count) (omega (arith, c.if-is_full.true))
 
 pub returns : goal.returns
 returns c =
@@ -54,7 +54,7 @@ returns c =
           (omega (
             arith,
             c.requires.0,
-            c.if-count-eq-MOST_LINES.false,
+            c.if-is_full.false,
           ))
-          (omega (arith, c.if-count-eq-MOST_LINES.false)) raws),
+          (omega (arith, c.if-is_full.false)) raws),
     )

@@ -19,5 +19,5 @@ returns c =
     let f = c.find_byte in
     let s : List ℕ = a.text.now in
     let fits : a.from + leading (part s a.from a.to) ≤ a.to = omega (arith, t.ensures.value, t.ensures.within) in
-    tab-search s a.from t.result f.result f.ensures.lower_bound.0 f.ensures.lower_bound.1 (search rules) f.ensures.lower_bound.2 f.ensures.found
+    tab-search s a.from t.result f.result f.ensures.place.0 f.ensures.place.1 (search rules) f.ensures.place.2 f.ensures.found
     ∙ ap (λ (n : ℕ). has_tab (part s a.from n)) t.ensures.value ∙ ap has_tab (sym (part-take s a.from a.to (leading (part s a.from a.to)) fits))

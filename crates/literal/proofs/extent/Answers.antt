@@ -1,6 +1,5 @@
 use borrow.Author.Rules.{rules}
 use mathlib.Core.Path.{◌≡◌}
-use Prim.Native.Nat.{◌-◌}
 use native.Mathlib.Omega.{arith}
 use Rattle.literal.proofs.Laws.{count-start, count-more, extent-of, row-stop, row-end}
 use Rattle.literal.proofs.extent.Goals as goal

@@ -1,5 +1,4 @@
 -- By the test. Assumes nothing.
-use Rattle.std.specs.Prelude.{if◌then◌else◌}
 use borrow.Author.Tests.{eq-eqb, ne_eqb}
 use native.Mathlib.Omega.{arith}
 use Rattle.literal.proofs.extra_spaces.Goals as goal

@@ -1,5 +1,4 @@
 -- By the test. Assumes nothing.
-use Rattle.std.specs.Prelude.{if◌then◌else◌}
 use Rattle.literal.proofs.kept_len.Goals as goal
 
 pub returns-then-strip : goal.returns-then-strip

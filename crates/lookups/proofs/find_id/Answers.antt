@@ -1,7 +1,6 @@
 use borrow.Author.Rules.{rules}
 use native.Mathlib.Omega.{arith}
 use mathlib.Core.Path.{refl, sym, ◌∙◌}
-use Prim.Native.Nat.{◌-◌}
 use Rattle.entries.proofs.Counting.{spanned}
 use Rattle.record.proofs.StepPlaces.{first_step, no_step}
 use Rattle.lookups.proofs.Ids.{ids-start, ids-end, id-found, ids_next}

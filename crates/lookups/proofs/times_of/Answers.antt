@@ -13,10 +13,10 @@ returns-then-negative c =
     let a = c.args in
     times-negative a.number a.n.magnitude ∙ ap (λ (t : Bool). times_in a.number (int (signed t a.n.magnitude))) (sym c.if-negative.true)
 
-pub returns-then-magnitude-eq0 : goal.returns-then-magnitude-eq0
-returns-then-magnitude-eq0 c =
+pub returns-then-is_zero : goal.returns-then-is_zero
+returns-then-is_zero c =
     let a = c.args in
-    times_zero a.number a.n.magnitude c.if-magnitude-eq0.true ∙ ap (λ (t : Bool). times_in a.number (int (signed t a.n.magnitude))) (sym c.if-negative.false)
+    times_zero a.number a.n.magnitude c.if-is_zero.true ∙ ap (λ (t : Bool). times_in a.number (int (signed t a.n.magnitude))) (sym c.if-negative.false)
 
 pub returns-then-magnitude-gt4294967295 : goal.returns-then-magnitude-gt4294967295
 returns-then-magnitude-gt4294967295 c =
@@ -26,4 +26,4 @@ returns-then-magnitude-gt4294967295 c =
 pub returns : goal.returns
 returns c =
     let a = c.args in
-    times-good a.number a.n.magnitude c.if-magnitude-eq0.false (search rules) ∙ ap (λ (t : Bool). times_in a.number (int (signed t a.n.magnitude))) (sym c.if-negative.false)
+    times-good a.number a.n.magnitude c.if-is_zero.false (search rules) ∙ ap (λ (t : Bool). times_in a.number (int (signed t a.n.magnitude))) (sym c.if-negative.false)

@@ -1,6 +1,6 @@
 -- What the walk leaves of one log, the rest places. Assumes nothing.
 use mathlib.Core.Path.{refl, subst, ◌∙◌}
-use Rattle.pair_logs.specs.Contract.{Walks, Rests}
+use Rattle.pair_logs.specs.Contract.{Walks}
 use Rattle.pair_logs.proofs.Turns.{hammers-fall, sounds-fall, all_placed}
 use Rattle.pair_logs.proofs.place.Goals as goal
 

@@ -1,5 +1,4 @@
 -- Each branch is one of the definition. Assumes nothing.
-use Rattle.std.specs.Prelude.{if◌then◌else◌}
 use mathlib.Core.Path.{sym, ◌∙◌}
 use Rattle.record.specs.Contract.{expect_kind}
 use Rattle.record.proofs.expect_kind.Goals as goal

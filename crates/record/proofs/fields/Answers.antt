@@ -11,13 +11,6 @@ use Rattle.record.specs.Read.{field_of, as_text}
 use Rattle.record.specs.Contract.{ItemAt, ItemEnds, are_texts}
 use Rattle.record.proofs.Views.{text-walks, tree-walks}
 use Rattle.record.proofs.Chains.{in_part, fields₁, fields₂, fields₃, fields₄, fields₅, fields₆, fields₇}
-use Rattle.record.proofs.fields.Reads as reads
-use Rattle.record.proofs.fields.Lts as lts
-use Rattle.record.proofs.value_of.Reads as value_of_lem
-use Rattle.record.proofs.item_of.Reads as item_of
-use Rattle.record.proofs.texts.Reads as texts
-use Rattle.value.proofs.value_at.Reads as value-at
-use Rattle.record.proofs.rest.Reads as rest
 use Rattle.record.proofs.fields.Goals as goal
 
 -- ---- the needs

@@ -10,12 +10,6 @@ use Rattle.record.specs.Read.{field_of, as_items}
 use Rattle.record.specs.Contract.{ItemAt, ItemEnds, are_defaults}
 use Rattle.record.proofs.Views.{items-walks}
 use Rattle.record.proofs.Chains.{in_part, rest₁, rest₂, rest₃, rest₄, rest₅, rest₆}
-use Rattle.record.proofs.rest.Reads as reads
-use Rattle.record.proofs.rest.Lts as lts
-use Rattle.record.proofs.item_of.Reads as item_of
-use Rattle.record.proofs.defaults.Reads as defaults
-use Rattle.record.proofs.value_of.Reads as value_of_lem
-use Rattle.record.proofs.steps.Reads as steps
 use Rattle.record.proofs.rest.Goals as goal
 
 -- ---- the needs

@@ -15,12 +15,6 @@ use Rattle.record.specs.Read.{field_of, as_text, as_optional, as_flag, as_comman
 use Rattle.record.specs.Contract.{of_kind, expect_kind, is_step}
 use Rattle.record.proofs.Views.{text-walks, optional-walks, flag-walks, expect-walks, tree-walks, no-command, command, no_text, text-part}
 use Rattle.record.proofs.Chains.{in_part, step₁, step₂, step₃, step₄, step₅, step₆, step₇, step₈}
-use Rattle.record.proofs.step_content.Reads as reads
-use Rattle.record.proofs.step_content.Lts as lts
-use Rattle.record.proofs.value_of.Reads as value_of_lem
-use Rattle.meaning.proofs.is_step_field.Reads as is-step-field
-use Rattle.value.proofs.value_at.Reads as value-at
-use Rattle.record.proofs.expect_kind.Reads as expect-kind
 use Rattle.record.proofs.step_content.Goals as goal
 
 -- ---- the needs

@@ -8,10 +8,6 @@ use Rattle.record.specs.Read.{in_item, step_in}
 use Rattle.record.specs.Contract.{ItemAt, ItemEnds}
 use Rattle.record.proofs.Invariants.{Left, left-start}
 use Rattle.record.proofs.Chains.{steps-end, steps-item, steps-fail, steps_next}
-use Rattle.record.proofs.steps.Reads as reads
-use Rattle.record.proofs.steps.Lts as lts
-use Rattle.record.proofs.item_of.Reads as item_of
-use Rattle.record.proofs.step_content.Reads as step-content
 use Rattle.record.proofs.steps.Goals as goal
 
 pub loop-at-init : goal.loop-at-init

@@ -3,10 +3,6 @@ use Prim.Native.Nat.{◌-◌, ◌≤◌}
 use lib.ListN.{length}
 use Rattle.record.specs.Read.{in_item, step_in}
 use Rattle.record.proofs.Invariants.{Left}
-use Rattle.record.proofs.steps.Reads as reads
-use Rattle.record.proofs.steps.Lts as lts
-use Rattle.record.proofs.item_of.Reads as item_of
-use Rattle.record.proofs.step_content.Reads as step-content
 use Rattle.record.proofs.steps.Given as goal
 
 abbrev pub invariant-loop-at : goal.invariant-loop-at

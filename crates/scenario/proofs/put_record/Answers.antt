@@ -17,12 +17,12 @@ put_top-at-requires c = let p = c.requires in (p.0, subst (TopInside _) c.in-Don
 pub put_steps-requires : goal.put_steps-requires
 put_steps-requires c =
     let p = c.requires in
-    let t = c.put_top-at.ensures.lower_bound in
+    let t = c.put_top-at.ensures.near in
     ((subst (TopInside _) c.in-Done.is c.read_top.ensures.top_inside).steps, p.0, p.1, omega (arith, t.1), omega (arith, t.2, p.2))
 
 pub close-requires : goal.close-requires
 close-requires c =
-    let t = c.put_top-at.ensures.lower_bound in
+    let t = c.put_top-at.ensures.near in
     let r = c.put_steps.ensures.steps_near in (
       omega (arith, t.0, subst (EndsBehind _) c.in-Done-put_steps.is r.ends),
       search rules,
@@ -43,7 +43,7 @@ returns-in-Refused-clause-whole c = λ y g st. top-refused _ y (subst (AgreesTop
 pub returns-in-Refused-put_steps-clause-steps_near : goal.returns-in-Refused-put_steps-clause-steps_near
 returns-in-Refused-put_steps-clause-steps_near c =
     let r = c.put_steps.ensures in
-    record { ends = tt; kept = r.steps_near.kept ∙ c.put_top-at.ensures.lower_bound.2; lines_kept = r.steps_near.lines_kept }
+    record { ends = tt; kept = r.steps_near.kept ∙ c.put_top-at.ensures.near.2; lines_kept = r.steps_near.lines_kept }
 
 pub returns-in-Refused-put_steps-clause-whole : goal.returns-in-Refused-put_steps-clause-whole
 returns-in-Refused-put_steps-clause-whole c =
@@ -61,7 +61,7 @@ returns-in-Done-put_steps-clause-steps_near c =
     let q = c.put_top-at.ensures in
     let r = c.put_steps.ensures in
     let l = c.close.ensures in
-    record { ends = omega (arith, q.lower_bound.0, subst (EndsBehind _) c.in-Done-put_steps.is r.steps_near.ends); kept = l.1 ∙ r.steps_near.kept ∙ q.lower_bound.2; lines_kept = r.steps_near.lines_kept }
+    record { ends = omega (arith, q.near.0, subst (EndsBehind _) c.in-Done-put_steps.is r.steps_near.ends); kept = l.1 ∙ r.steps_near.kept ∙ q.near.2; lines_kept = r.steps_near.lines_kept }
 
 pub returns-in-Done-put_steps-clause-whole : goal.returns-in-Done-put_steps-clause-whole
 returns-in-Done-put_steps-clause-whole c =

@@ -1,7 +1,6 @@
 use borrow.Author.Rules.{rules}
 use native.Mathlib.Omega.{arith}
 use mathlib.Core.Path.{sym, subst}
-use Prim.Native.Nat.{◌-◌}
 use Rattle.refusal.specs.Base.{bytes}
 use Rattle.item.specs.Tree.{Entries}
 use Rattle.item.specs.declared.Found.{Found}

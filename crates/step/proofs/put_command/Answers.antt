@@ -18,9 +18,9 @@ put_value-requires c =
     let t = c.put_text-end.ensures in
     (search rules, omega (arith, t.ends, item-length 3 k), omega (arith, t.kept))
 
-pub returns-clause-lower_bound : goal.returns-clause-lower_bound
+pub returns-clause-near : goal.returns-clause-near
 unfolding maybe
-returns-clause-lower_bound c =
+returns-clause-near c =
     let a = c.args in
     let k = take (a.places.value - a.places.key) (drop a.places.key a.s.now) in
     let t = c.put_text-end.ensures in

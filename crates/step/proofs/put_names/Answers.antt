@@ -4,8 +4,8 @@ use mathlib.Core.Path.{◌∙◌}
 use Rattle.nodes.proofs.Storing.{stored-then, text-stored}
 use Rattle.step.proofs.put_names.Goals as goal
 
-pub returns-clause-lower_bound : goal.returns-clause-lower_bound
-returns-clause-lower_bound c =
+pub returns-clause-near : goal.returns-clause-near
+returns-clause-near c =
     let a = c.put_found-end.ensures in
     let b = c.put_found.ensures in
     (omega (arith, a.near.low, b.near.low), omega (arith, a.near.high, b.near.high), b.near.kept ∙ a.near.kept)

@@ -14,8 +14,8 @@ put_value-requires c =
     let f = c.put_flag-b.ensures in
     (search rules, omega (arith, o.high, f.ends, encode-size (bool c.is_true.result)), omega (arith, o.kept, f.kept))
 
-pub returns-clause-lower_bound : goal.returns-clause-lower_bound
-returns-clause-lower_bound c =
+pub returns-clause-near : goal.returns-clause-near
+returns-clause-near c =
     let o = c.put_optional-a.ensures in
     let f = c.put_flag-b.ensures in
     let n = encode-size (bool c.is_true.result) in

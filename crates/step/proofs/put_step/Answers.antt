@@ -5,13 +5,13 @@ use Rattle.nodes.proofs.Storing.{stored-then, stored_is, stored-item}
 use Rattle.step.proofs.Writing.{step-bytes}
 use Rattle.step.proofs.put_step.Goals as goal
 
-pub returns-clause-lower_bound : goal.returns-clause-lower_bound
-returns-clause-lower_bound c =
+pub returns-clause-near : goal.returns-clause-near
+returns-clause-near c =
     let n = c.put_names-a.ensures in
     let k = c.put_command-b.ensures in
     let r = c.put_rest-c.ensures in
     let e = c.close.ensures in
-    (omega (arith, n.lower_bound.0, k.lower_bound.0, r.lower_bound.0), omega (arith, n.lower_bound.1, k.lower_bound.1, r.lower_bound.1), e.1 ∙ r.lower_bound.2 ∙ k.lower_bound.2 ∙ n.lower_bound.2)
+    (omega (arith, n.near.0, k.near.0, r.near.0), omega (arith, n.near.1, k.near.1, r.near.1), e.1 ∙ r.near.2 ∙ k.near.2 ∙ n.near.2)
 
 pub returns-clause-step : goal.returns-clause-step
 returns-clause-step c =

@@ -12,7 +12,7 @@ put_step-requires c =
 pub returns-in-Step-clause-part_near : goal.returns-in-Step-clause-part_near
 returns-in-Step-clause-part_near c =
     let w = c.put_step.ensures in
-    w.lower_bound
+    w.near
 
 pub returns-in-Step-clause-step : goal.returns-in-Step-clause-step
 returns-in-Step-clause-step c =

@@ -1,6 +1,5 @@
 use borrow.Author.Rules.{rules}
 use mathlib.Core.Path.{refl, sym, ◌∙◌}
-use Prim.Native.Nat.{◌-◌}
 use native.Mathlib.Omega.{arith}
 use Rattle.step_lines.proofs.Laws.{dash-on, next-ended, next-none, next_here}
 use Rattle.step_lines.proofs.next_dash.Goals as goal

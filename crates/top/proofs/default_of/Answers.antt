@@ -1,5 +1,4 @@
 -- One word after the other. Assumes nothing.
-use Rattle.std.specs.Prelude.{if◌then◌else◌}
 use mathlib.Core.Path.{sym, ◌∙◌}
 use Rattle.refusal.specs.Base.{bytes}
 use Rattle.top.specs.Contract.{default_key}

@@ -1,6 +1,5 @@
 use borrow.Author.Rules.{rules}
 use mathlib.Core.Path.{sym, ◌∙◌}
-use Prim.Native.Nat.{◌-◌}
 use native.Mathlib.Omega.{arith}
 use Rattle.entries.proofs.Walking.{places_of, turn, no-entry}
 use Rattle.top.proofs.Keys.{known_start, known-false, known_on, known-done}

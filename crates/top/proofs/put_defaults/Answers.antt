@@ -5,8 +5,8 @@ use Rattle.nodes.proofs.Storing.{optional-stored}
 use Rattle.top.proofs.DefaultKeys.{defaults-stored}
 use Rattle.top.proofs.put_defaults.Goals as goal
 
-pub returns-clause-lower_bound : goal.returns-clause-lower_bound
-returns-clause-lower_bound c =
+pub returns-clause-near : goal.returns-clause-near
+returns-clause-near c =
     let n = c.put_optional-middle.ensures in
     let m = c.put_optional-end.ensures in
     let l = c.close.ensures in

@@ -1,6 +1,5 @@
 use borrow.Author.Rules.{rules}
 use mathlib.Core.Path.{refl, sym, ap, subst, ◌∙◌}
-use Prim.Native.Nat.{◌-◌}
 use native.Mathlib.Omega.{arith}
 use lib.ListN.{length}
 use Rattle.entries.proofs.Counting.{spanned}
@@ -12,8 +11,8 @@ use Rattle.top.proofs.put_tags.Goals as goal
 pub loop-i-init : goal.loop-i-init
 loop-i-init c = (search rules, search rules, search rules, search rules, refl, λ ys h. tags-start ys h)
 
-pub returns-in_default-clause-lower_bound : goal.returns-in_default-clause-lower_bound
-returns-in_default-clause-lower_bound c =
+pub returns-in_default-clause-near : goal.returns-in_default-clause-near
+returns-in_default-clause-near c =
     let v = c.loop-i.invariant in
     (omega (arith, v.1), v.3, v.4)
 
@@ -70,8 +69,8 @@ loop-i-preserved c =
 pub close-requires : goal.close-requires
 close-requires c = let v = c.loop-i.invariant in (v.1, search rules, search rules)
 
-pub returns-clause-lower_bound : goal.returns-clause-lower_bound
-returns-clause-lower_bound c =
+pub returns-clause-near : goal.returns-clause-near
+returns-clause-near c =
     let v = c.loop-i.invariant in
     let l = c.close.ensures in
     (omega (arith, v.1), v.3, l.1 ∙ v.4)

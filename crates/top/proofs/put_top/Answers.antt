@@ -11,7 +11,7 @@ put_defaults-f-requires c =
     let p = c.requires in
     let a = c.put_found-a.ensures.near in
     let b = c.put_found-b.ensures.near in
-    let t = c.put_tags-c.ensures.lower_bound in
+    let t = c.put_tags-c.ensures.near in
     let d = c.put_found-d.ensures.near in
     let e = c.put_value-e.ensures.near in
     (p.0, omega (arith, p.0, p.1.tags.0, p.1.tags.1, p.2, a.high, b.high, t.1, d.high, e.high), omega (arith, p.3, a.kept, b.kept, t.2, d.kept, e.kept))
@@ -21,14 +21,14 @@ put_sequence-requires c =
     let p = c.requires in
     let a = c.put_found-a.ensures.near in
     let b = c.put_found-b.ensures.near in
-    let t = c.put_tags-c.ensures.lower_bound in
+    let t = c.put_tags-c.ensures.near in
     let d = c.put_found-d.ensures.near in
     let e = c.put_value-e.ensures.near in
-    let f = c.put_defaults-f.ensures.lower_bound in
+    let f = c.put_defaults-f.ensures.near in
     (p.1.fail_on, p.0, omega (arith, p.0, p.1.tags.0, p.1.tags.1, p.2, a.high, b.high, t.1, d.high, e.high, f.1), omega (arith, p.3, a.kept, b.kept, t.2, d.kept, e.kept, f.2))
 
-pub returns-clause-lower_bound : goal.returns-clause-lower_bound
-returns-clause-lower_bound c =
+pub returns-clause-near : goal.returns-clause-near
+returns-clause-near c =
     let p = c.requires in
     let r = c.args in
     let fail_on = r.top.fail_on in
@@ -40,9 +40,9 @@ returns-clause-lower_bound c =
     let f = c.put_defaults-f.ensures in
     let g = c.put_sequence.ensures in
     let n = sequence-near r.s.now fail_on.from fail_on.to g p.1.fail_on.1 p.0 in (
-      omega (arith, a.near.low, b.near.low, t.lower_bound.0, d.near.low, e.near.low, f.lower_bound.0, n.low),
-      omega (arith, p.0, p.1.tags.0, p.1.tags.1, a.near.high, b.near.high, t.lower_bound.1, d.near.high, e.near.high, f.lower_bound.1, n.high),
-      n.kept ∙ f.lower_bound.2 ∙ e.near.kept ∙ d.near.kept ∙ t.lower_bound.2 ∙ b.near.kept ∙ a.near.kept,
+      omega (arith, a.near.low, b.near.low, t.near.0, d.near.low, e.near.low, f.near.0, n.low),
+      omega (arith, p.0, p.1.tags.0, p.1.tags.1, a.near.high, b.near.high, t.near.1, d.near.high, e.near.high, f.near.1, n.high),
+      n.kept ∙ f.near.2 ∙ e.near.kept ∙ d.near.kept ∙ t.near.2 ∙ b.near.kept ∙ a.near.kept,
     )
 
 pub returns-clause-fields : goal.returns-clause-fields

@@ -1,6 +1,5 @@
 use borrow.Author.Rules.{rules}
 use mathlib.Core.Path.{refl, sym, ◌∙◌}
-use Prim.Native.Nat.{◌-◌}
 use Rattle.utf8.specs.Utf8.{is_utf8}
 use Rattle.utf8.proofs.Rows.{ended}
 use Rattle.utf8.proofs.is_utf8.Goals as goal

@@ -1,6 +1,5 @@
 use borrow.Author.Rules.{rules}
 use mathlib.Core.Path.{refl, sym, ◌∙◌}
-use Prim.Native.Nat.{◌-◌}
 use Rattle.utf8.proofs.Turns.{white-nil, start-turn, start-end, visible-first}
 use Rattle.utf8.proofs.trim_start.Goals as goal
 

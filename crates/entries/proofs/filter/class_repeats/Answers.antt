@@ -5,7 +5,7 @@ use Prim.Native.Nat.{ℕ, ◌-◌, ◌/◌, ◌^◌}
 use mathlib.Core.List.{List}
 use mathlib.Core.Bool.{Bool, true, false≢true}
 use lib.Bits.{bit_and}
-use lib.ListN.{length, take, drop}
+use lib.ListN.{take, drop}
 use Rattle.item.specs.Tree.{Entries, has_key}
 use Rattle.item.specs.Encode.{encode}
 use Rattle.entries.specs.Entries.{Lies, Places}

@@ -1,6 +1,5 @@
 use borrow.Author.Rules.{rules}
 use mathlib.Core.Path.{subst}
-use Prim.Native.Nat.{◌-◌}
 use Rattle.entries.specs.Contract.{Filters}
 use Rattle.entries.proofs.Twice.{twice-whole, no-class}
 use Rattle.entries.proofs.filter.filter_repeats.Goals as goal

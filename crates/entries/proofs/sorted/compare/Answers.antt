@@ -1,5 +1,4 @@
 use borrow.Author.Rules.{rules}
-use Prim.Native.Nat.{◌-◌}
 use Rattle.entries.specs.Contract.{as_long}
 use Rattle.entries.proofs.Order.{drop-less, fronts-on}
 use Rattle.entries.proofs.sorted.compare.Goals as goal

@@ -1,5 +1,4 @@
 use borrow.Author.Rules.{rules}
-use Prim.Native.Nat.{◌-◌}
 use Rattle.entries.proofs.Twice.{judged-all}
 use Rattle.entries.proofs.sorted.sorted_repeats.Goals as goal
 

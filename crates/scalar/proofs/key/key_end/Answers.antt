@@ -1,7 +1,6 @@
 use native.Mathlib.Omega.{arith}
 use mathlib.Core.Path.{refl, sym, ap, ◌∙◌}
 use mathlib.Core.Logic.{inl}
-use Prim.Native.Nat.{◌-◌}
 use Rattle.scalar.specs.Key.{key_end}
 use Rattle.scalar.specs.Code.{found_of}
 use Rattle.scalar.proofs.KeyLaws.{key_here, key-turn, depth-turn, key-end, quoting-on}

@@ -1,6 +1,5 @@
 use borrow.Author.Rules.{rules}
 use mathlib.Core.Path.{◌∙◌}
-use Prim.Native.Nat.{◌-◌}
 use Rattle.scalar.proofs.KeyLaws.{passes_on}
 use Rattle.scalar.proofs.key.skip_passed.Goals as goal
 

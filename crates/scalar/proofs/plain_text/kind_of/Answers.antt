@@ -1,5 +1,4 @@
 -- By the tests. Assumes nothing.
-use Rattle.std.specs.Prelude.{if◌then◌else◌}
 use mathlib.Core.Path.{sym, ap, ◌∙◌}
 use Rattle.number.specs.Code.{int_of}
 use Rattle.scalar.specs.Scalars.{scalar_of, int_or}

@@ -2,7 +2,6 @@ use borrow.Author.Rules.{rules}
 use native.Mathlib.Omega.{arith}
 use mathlib.Core.Path.{sym, ◌∙◌}
 use mathlib.Core.Bool.{true}
-use Prim.Native.Nat.{◌-◌}
 use lib.ListN.{drop, length-drop}
 use Rattle.scalar.proofs.Laws.{plain-none, plain_here, plain-on, plain_top}
 use Rattle.scalar.proofs.plain_text.plain_end.Goals as goal

@@ -1,8 +1,8 @@
 use borrow.Author.Rules.{rules}
 use native.Mathlib.Omega.{arith}
 use mathlib.Core.Path.{◌≡◌, refl, sym, ◌∙◌, subst}
-use Prim.Native.Nat.{ℕ, ◌-◌, ◌<◌}
-use mathlib.Core.List.{List, [], ◌∷◌}
+use Prim.Native.Nat.{ℕ, ◌<◌}
+use mathlib.Core.List.{List}
 use lib.ListN.{length, drop, length-set}
 use Rattle.refusal.specs.Base.{good}
 use Rattle.scalar.specs.Code.{quoted_of, AgreesPiece, Content}

@@ -1,7 +1,6 @@
 use borrow.Author.Rules.{rules}
 use native.Mathlib.Omega.{arith}
 use mathlib.Core.Path.{subst}
-use Prim.Native.Nat.{◌-◌}
 use Rattle.scalar.specs.Code.{quoted_of, AgreesPiece}
 use Rattle.scalar.proofs.QuoteLaws.{passed_none, passed-byte, passed-shut, passed-refused}
 use Rattle.scalar.proofs.quoted_text.span_of.Goals as goal

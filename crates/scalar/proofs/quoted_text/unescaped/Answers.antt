@@ -1,5 +1,4 @@
 -- By the byte. Assumes nothing.
-use Rattle.std.specs.Prelude.{if◌then◌else◌}
 use Rattle.scalar.specs.Read.{escape}
 use Rattle.scalar.proofs.QuoteLaws.{escape-self, escape-none}
 use Rattle.scalar.proofs.quoted_text.unescaped.Goals as goal
