@@ -135,7 +135,8 @@ fn sequence(s: &[u8], start: usize, levels: usize, line: u32, out: &mut [u8], at
                 key: false,
             };
         }
-        if stuck(s, j) {
+        let is_stuck = stuck(s, j);
+        if is_stuck {
             return Parsed::Refused(Refusal::StuckSequence { line });
         }
         match value(s, j, levels, true, Role::AsValue, line, out, p) {

@@ -178,7 +178,8 @@ pub fn render(s: &[u8], p: usize, out: &mut [u8], at: usize) -> Rendered
         let n = integer_at(s, from);
         return Rendered::Text(put_integer(out, at, n.negative, n.magnitude));
     }
-    if kind == 3 {
+    let is_string = kind == 3;
+    if is_string {
         return Rendered::Text(put(out, at, &s[p..to]));
     }
     Rendered::NoScalar

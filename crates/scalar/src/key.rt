@@ -14,10 +14,9 @@ fn quote_after(q: u8, b: u8) -> u8
             b'\'' | b'"' => b,
             _ => 0,
         }
-    } else if b == q {
-        0
     } else {
-        q
+        let closes = b == q;
+        if closes { 0 } else { q }
     }
 }
 

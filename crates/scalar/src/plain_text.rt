@@ -191,7 +191,8 @@ fn put_int_as(
     let Role::AsValue = role else {
         return int_key_at(negative, magnitude, next, out, at);
     };
-    if out.len() - at < 14 {
+    let is_short = out.len() - at < 14;
+    if is_short {
         return Parsed::Refused(Refusal::WorkTooShort);
     }
     put_int(out, at, negative, magnitude);
@@ -247,7 +248,8 @@ pub fn ends_colon(s: &[u8], i: usize) -> bool
         return true;
     }
     let b = s[i];
-    if b == b' ' {
+    let is_space = b == b' ';
+    if is_space {
         return true;
     }
     ends_item(b)

@@ -66,7 +66,8 @@ pub fn read_with(text: &[u8], table: &mut [u16; TABLE], out: &mut [u8]) -> TreeR
     ensures { AgreesRead (definition.tree (length out.old) text.now) text.now table.new
         out.old out.new result }
 {
-    if text.len() > LONGEST {
+    let is_long = text.len() > LONGEST;
+    if is_long {
         return TreeRead::Refused(Refusal::TextTooLong);
     }
     if !is_utf8(text) {

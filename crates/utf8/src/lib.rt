@@ -148,7 +148,8 @@ fn one_byte(a: u8) -> bool
 fn two_bytes(a: u8, b: u8) -> bool
     ensures { result ≡ white2 a b }
 {
-    if a == 0xc2 {
+    let is_c2 = a == 0xc2;
+    if is_c2 {
         if b == 0x85 {
             return true;
         }
@@ -160,13 +161,15 @@ fn two_bytes(a: u8, b: u8) -> bool
 fn three_bytes(a: u8, b: u8, c: u8) -> bool
     ensures { result ≡ white3 a b c }
 {
-    if a == 0xe1 {
+    let is_e1 = a == 0xe1;
+    if is_e1 {
         if b == 0x9a {
             return c == 0x80;
         }
         return false;
     }
-    if a == 0xe2 {
+    let is_e2 = a == 0xe2;
+    if is_e2 {
         if b == 0x80 {
             return in_2000(c);
         }
@@ -175,7 +178,8 @@ fn three_bytes(a: u8, b: u8, c: u8) -> bool
         }
         return false;
     }
-    if a == 0xe3 {
+    let is_e3 = a == 0xe3;
+    if is_e3 {
         if b == 0x80 {
             return c == 0x80;
         }

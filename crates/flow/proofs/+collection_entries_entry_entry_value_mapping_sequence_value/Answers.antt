@@ -226,14 +226,14 @@ sequence-returns-then-s-j-eq93 t c =
     let h : k.result < length a.s.now = omega (arith, k.ensures.2, c.if-j-s.false) in
     list_close a.s.now a.start a.levels a.line a.out.now a.at l.out k.result l.p v h (k.ensures.3 h) c.if-s-j-eq93.true _ c.put_header.ensures
 
-pub sequence-returns-then-stuck : goal.sequence-returns-then-stuck
-sequence-returns-then-stuck t c =
+pub sequence-returns-then-is_stuck : goal.sequence-returns-then-is_stuck
+sequence-returns-then-is_stuck t c =
     let a = c.args in
     let l = c.loop-start in
     let k = c.skip_separators-j in
     let v = listed_at a.s.now a.start a.levels a.line a.out.now a.at l.out l.i l.p l.invariant k.result k.ensures.0 k.ensures.2 in
     let h : k.result < length a.s.now = omega (arith, k.ensures.2, c.if-j-s.false) in
-    λ role. list-stuck a.s.now a.start a.levels a.line a.out.now a.at l.out k.result l.p v h (k.ensures.3 h) c.if-s-j-eq93.false (sym c.stuck.ensures ∙ c.if-stuck.true)
+    λ role. list-stuck a.s.now a.start a.levels a.line a.out.now a.at l.out k.result l.p v h (k.ensures.3 h) c.if-s-j-eq93.false (sym c.stuck-is_stuck.ensures ∙ c.if-is_stuck.true)
 
 pub sequence-loop-start-smaller : goal.sequence-loop-start-smaller
 sequence-loop-start-smaller t c =
@@ -242,7 +242,7 @@ sequence-loop-start-smaller t c =
     let k = c.skip_separators-j in
     let v = listed_at a.s.now a.start a.levels a.line a.out.now a.at l.out l.i l.p l.invariant k.result k.ensures.0 k.ensures.2 in
     let h : k.result < length a.s.now = omega (arith, k.ensures.2, c.if-j-s.false) in
-    omega (arith, k.ensures.1, list-falls a.s.now a.start a.levels a.line a.out.now a.at l.out k.result l.p v h (k.ensures.3 h) c.if-s-j-eq93.false (sym c.stuck.ensures ∙ c.if-stuck.false) _ c.value.result c.value.ensures c.in-Done.next c.in-Done.used c.in-Done.key c.in-Done.is)
+    omega (arith, k.ensures.1, list-falls a.s.now a.start a.levels a.line a.out.now a.at l.out k.result l.p v h (k.ensures.3 h) c.if-s-j-eq93.false (sym c.stuck-is_stuck.ensures ∙ c.if-is_stuck.false) _ c.value.result c.value.ensures c.in-Done.next c.in-Done.used c.in-Done.key c.in-Done.is)
 
 pub sequence-loop-start-preserved : goal.sequence-loop-start-preserved
 sequence-loop-start-preserved t c =
@@ -251,7 +251,7 @@ sequence-loop-start-preserved t c =
     let k = c.skip_separators-j in
     let v = listed_at a.s.now a.start a.levels a.line a.out.now a.at l.out l.i l.p l.invariant k.result k.ensures.0 k.ensures.2 in
     let h : k.result < length a.s.now = omega (arith, k.ensures.2, c.if-j-s.false) in
-    list_on a.s.now a.start a.levels a.line a.out.now a.at l.out k.result l.p v h (k.ensures.3 h) c.if-s-j-eq93.false (sym c.stuck.ensures ∙ c.if-stuck.false) _ c.value.result c.value.ensures c.in-Done.next c.in-Done.used c.in-Done.key c.in-Done.is
+    list_on a.s.now a.start a.levels a.line a.out.now a.at l.out k.result l.p v h (k.ensures.3 h) c.if-s-j-eq93.false (sym c.stuck-is_stuck.ensures ∙ c.if-is_stuck.false) _ c.value.result c.value.ensures c.in-Done.next c.in-Done.used c.in-Done.key c.in-Done.is
 
 pub sequence-returns-in-Refused : goal.sequence-returns-in-Refused
 sequence-returns-in-Refused t c =
@@ -260,7 +260,7 @@ sequence-returns-in-Refused t c =
     let k = c.skip_separators-j in
     let v = listed_at a.s.now a.start a.levels a.line a.out.now a.at l.out l.i l.p l.invariant k.result k.ensures.0 k.ensures.2 in
     let h : k.result < length a.s.now = omega (arith, k.ensures.2, c.if-j-s.false) in
-    λ role. list-stops a.s.now a.start a.levels a.line a.out.now a.at l.out k.result l.p v h (k.ensures.3 h) c.if-s-j-eq93.false (sym c.stuck.ensures ∙ c.if-stuck.false) _ c.value.result c.value.ensures c.in-Refused.e c.in-Refused.is
+    λ role. list-stops a.s.now a.start a.levels a.line a.out.now a.at l.out k.result l.p v h (k.ensures.3 h) c.if-s-j-eq93.false (sym c.stuck-is_stuck.ensures ∙ c.if-is_stuck.false) _ c.value.result c.value.ensures c.in-Refused.e c.in-Refused.is
 
 pub value-returns-then-i-s : goal.value-returns-then-i-s
 value-returns-then-i-s t c =

@@ -69,19 +69,19 @@ slice_bounds-put-end c = (spans _ _ (sym c.in-Item.is ∙ c.header_at-head.ensur
 pub put-requires : goal.put-requires
 put-requires c = (part-short _ _ _ (spans _ _ (sym c.in-Item.is ∙ c.header_at-head.ensures)).fits (search rules), search rules)
 
-pub returns-then-kind-eq3-clause-renders_near : goal.returns-then-kind-eq3-clause-renders_near
-returns-then-kind-eq3-clause-renders_near c =
+pub returns-then-is_string-clause-renders_near : goal.returns-then-is_string-clause-renders_near
+returns-then-is_string-clause-renders_near c =
     let w = c.put.ensures in
     part-near _ _ _ w (spans _ _ (sym c.in-Item.is ∙ c.header_at-head.ensures)).fits (search rules)
 
-pub returns-then-kind-eq3-clause-text : goal.returns-then-kind-eq3-clause-text
-returns-then-kind-eq3-clause-text c =
+pub returns-then-is_string-clause-text : goal.returns-then-is_string-clause-text
+returns-then-is_string-clause-text c =
     let w = c.put.ensures in
     λ y g st.
     let i = valued (sym c.in-Item.is ∙ c.header_at-head.ensures) y (search rules) st in
-    str-text _ y (omega (arith, i.kind_is, c.if-kind-eq3.true)) i.end st w
+    str-text _ y (omega (arith, i.kind_is, c.if-is_string.true)) i.end st w
 
 pub returns-clause-text : goal.returns-clause-text
 returns-clause-text c = λ y g st.
     let i = valued (sym c.in-Item.is ∙ c.header_at-head.ensures) y (search rules) st in
-    no_text _ _ y (λ e. omega (arith, i.kind_is, e, c.if-kind-eq1.false)) (λ e. omega (arith, i.kind_is, e, c.if-kind-eq2.false)) (λ e. omega (arith, i.kind_is, e, c.if-kind-eq3.false))
+    no_text _ _ y (λ e. omega (arith, i.kind_is, e, c.if-kind-eq1.false)) (λ e. omega (arith, i.kind_is, e, c.if-kind-eq2.false)) (λ e. omega (arith, i.kind_is, e, c.if-is_string.false))

@@ -13,9 +13,9 @@ pub returns-in_default : goal.returns-in_default
 unfolding written
 returns-in_default c = rw c.in_default.is c.int_key_at.ensures
 
-pub returns-then-out-at-lt14 : goal.returns-then-out-at-lt14
+pub returns-then-is_short : goal.returns-then-is_short
 unfolding written cost
-returns-then-out-at-lt14 c = let a = c.args in rw c.in-AsValue.is (refl, omega (arith, written-cost AsValue (int (signed a.negative a.magnitude)) tt), refl)
+returns-then-is_short c = let a = c.args in rw c.in-AsValue.is (refl, omega (arith, written-cost AsValue (int (signed a.negative a.magnitude)) tt), refl)
 
 pub returns : goal.returns
 unfolding written cost
