@@ -1,7 +1,7 @@
 /* The drum reader: programme texts to records, what can be asked of a record, how drums share a supply, and what a microphone heard of the
  * hammers.
  *
- *     rt staticlib drum                                     writes target/staticlib/libdrum.a (x86-64 Linux)
+ *     bindings/library                                      writes target/staticlib/libdrum.a (x86-64 Linux)
  *     cc -Iinclude player.c target/staticlib/libdrum.a
  *
  * Every function behind this header is proved: it answers what documents 01 and 02 say, stays within the buffers that it is lent, and ends, for

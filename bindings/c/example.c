@@ -1,5 +1,6 @@
 /* Reads a programme, prints its steps, and looks some up by their ids.
  *
+ *     bindings/library
  *     cc -Iinclude bindings/c/example.c target/staticlib/libdrum.a -o example && ./example examples/noon.yaml hour */
 #include "drum.h"
 

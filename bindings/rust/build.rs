@@ -1,4 +1,4 @@
-//! Where the static library is: `DRUM_LIB_DIR`, or where `rt staticlib drum` writes it.
+//! Where the static library is: `DRUM_LIB_DIR`, or where `bindings/library` puts it.
 fn main() {
     let here = env!("CARGO_MANIFEST_DIR");
     let dir = std::env::var("DRUM_LIB_DIR").unwrap_or(format!("{here}/../../target/staticlib"));

@@ -167,7 +167,7 @@ class Parse:
                 d = self.item(m)
                 items.append(d)
                 rows += d['rows']
-            return dict(k='b-seq', items=items, rows=rows, rep=('seq', [d['rep'] for d in items]))
+            return dict(k='b_seq', items=items, rows=rows, rep=('seq', [d['rep'] for d in items]))
         if self.key_at(s):
             return self.pairs(m)
         b = self.lines[self.i][1]
@@ -175,7 +175,7 @@ class Parse:
         if not is_tail(s[j:]): raise No('text behind a node: %r' % s)
         self.i += 1
         cs = self.comments()
-        return dict(k='b-flow', flow=d, w=s[j:], cs=cs, rows=[self.row(m, s, j, b)] + cs, rep=d[2])
+        return dict(k='b_flow', flow=d, w=s[j:], cs=cs, rows=[self.row(m, s, j, b)] + cs, rep=d[2])
 
     def pairs(self, m):
         es, rows = [], []
@@ -183,7 +183,7 @@ class Parse:
             d = self.entry(m, self.lines[self.i][0][m:])
             es.append(d)
             rows += d['rows']
-        return dict(k='b-map', es=es, rows=rows, rep=('map', [(d['key'], d['rep']) for d in es]))
+        return dict(k='b_map', es=es, rows=rows, rep=('map', [(d['key'], d['rep']) for d in es]))
 
     def item(self, m):
         s, b = self.lines[self.i]
@@ -195,8 +195,8 @@ class Parse:
             row = self.row(m, s, 1, b)
             if self.indent() > m:
                 d = self.block(self.indent())
-                return dict(k='i-block', w=s[1:], cs=cs, block=d, rows=[row] + cs + d['rows'], rep=d['rep'])
-            return dict(k='i-null', w=s[1:], cs=cs, rows=[row] + cs, rep=None)
+                return dict(k='i_block', w=s[1:], cs=cs, block=d, rows=[row] + cs + d['rows'], rep=d['rep'])
+            return dict(k='i_null', w=s[1:], cs=cs, rows=[row] + cs, rep=None)
         if j == 1: raise No('tab behind a dash')
         if s[j:j + 2] in (b'- ', b'-') : raise No('sequence behind a dash')
         if s[j:j + 1] == b'\t':
@@ -211,12 +211,12 @@ class Parse:
                 es.append(d)
                 rows += d['rows']
             _, _, c, w, b = rows[0]
-            return dict(k='i-map', j=j - 2, es=es, rows=[('node', m, s[:j] + c, w, b)] + rows[1:], inner=rows, rep=('map', [(d['key'], d['rep']) for d in es]))
+            return dict(k='i_map', j=j - 2, es=es, rows=[('node', m, s[:j] + c, w, b)] + rows[1:], inner=rows, rep=('map', [(d['key'], d['rep']) for d in es]))
         d, e = flow('out', s, j)
         if not is_tail(s[e:]): raise No('text behind a node: %r' % s)
         self.i += 1
         cs = self.comments()
-        return dict(k='i-flow', x=s[2:j], flow=d, w=s[e:], cs=cs, rows=[self.row(m, s, e, b)] + cs, rep=d[2])
+        return dict(k='i_flow', x=s[2:j], flow=d, w=s[e:], cs=cs, rows=[self.row(m, s, e, b)] + cs, rep=d[2])
 
     def entry(self, n, s):
         b = self.lines[self.i][1]
@@ -229,8 +229,8 @@ class Parse:
             cs = self.comments()
             if self.indent() > n:
                 d = self.block(self.indent())
-                return dict(base, k='e-block', w=s[k + 1:], cs=cs, block=d, rows=[row] + cs + d['rows'], rep=d['rep'])
-            return dict(base, k='e-null', w=s[k + 1:], cs=cs, rows=[row] + cs, rep=None)
+                return dict(base, k='e_block', w=s[k + 1:], cs=cs, block=d, rows=[row] + cs + d['rows'], rep=d['rep'])
+            return dict(base, k='e_null', w=s[k + 1:], cs=cs, rows=[row] + cs, rep=None)
         if s[k + 1:k + 2] != b' ': raise No('tab behind a colon')
         j = whites_at(s, k + 1)
         if s[j:j + 1] == b'|':
@@ -240,12 +240,12 @@ class Parse:
             if not is_tail(s[e:]): raise No('header')
             self.i += 1
             lit = self.literal(n, chomp)
-            return dict(base, k='e-literal', x=s[k + 2:j], chomp=chomp, w=s[e:], lit=lit, rows=[self.row(n, s, e, b)] + lit['rows'], rep=('str', lit['v']))
+            return dict(base, k='e_literal', x=s[k + 2:j], chomp=chomp, w=s[e:], lit=lit, rows=[self.row(n, s, e, b)] + lit['rows'], rep=('str', lit['v']))
         d, e = flow('out', s, j)
         if not is_tail(s[e:]): raise No('text behind a node: %r' % s)
         self.i += 1
         cs = self.comments()
-        return dict(base, k='e-flow', x=s[k + 2:j], flow=d, w=s[e:], cs=cs, rows=[self.row(n, s, e, b)] + cs, rep=d[2])
+        return dict(base, k='e_flow', x=s[k + 2:j], flow=d, w=s[e:], cs=cs, rows=[self.row(n, s, e, b)] + cs, rep=d[2])
 
     def literal(self, n, chomp):
         # the first line that is not empty
@@ -263,7 +263,7 @@ class Parse:
                 self.i += 1
                 trail.append(('comment', s, b)); trail += [('after',) + r[1:] for r in self.comments()]
             top = max([len(t[1]) for t in trail if t[0] == 'blank'], default=0)
-            return dict(k='l-nothing', m=top, trail=trail, rows=[('note', t[1], t[2]) for t in trail], v=b'')
+            return dict(k='l_nothing', m=top, trail=trail, rows=[('note', t[1], t[2]) for t in trail], v=b'')
         lines, blanks, rows = [], [], []
         while self.i < len(self.lines):
             s, b = self.lines[self.i]
@@ -284,19 +284,19 @@ class Parse:
             trail.append(('comment', s, b)); trail += [('after',) + r[1:] for r in self.comments()]
         v = b'\n'.join(b'\n' * len(bl) + t for bl, t, _ in lines)
         if chomp == 'clip' and lines[-1][2] != 'eof': v += b'\n'
-        return dict(k='l-lines', m=m, lines=lines, trail=trail, rows=rows + [('note', t[1], t[2]) for t in trail], v=v)
+        return dict(k='l_lines', m=m, lines=lines, trail=trail, rows=rows + [('note', t[1], t[2]) for t in trail], v=v)
 
     def document(self):
         cs = self.comments()
         if self.i == len(self.lines):
-            return dict(k='d-none', rows=cs, rep='none')
+            return dict(k='d_none', rows=cs, rep='none')
         d = self.block(self.indent())
         if self.i != len(self.lines): raise No('lines left: %r' % self.lines[self.i][0])
         rows = cs + d['rows']
         for r in rows:
             s = raw(r)
             if s[:3] in (b'---', b'...') and (len(s) == 3 or s[3] in b' \t'): raise No('marker')
-        return dict(k='d-one', cs=cs, block=d, rows=rows, rep=d['rep'])
+        return dict(k='d_one', cs=cs, block=d, rows=rows, rep=d['rep'])
 
 
 # ---- the conditions
@@ -316,20 +316,20 @@ def broken_flow(d):
 
 def broken(d):
     k = d['k']
-    if k == 'd-none': return kept_rows(d['rows'])
-    if k == 'd-one': return broken(d['block']) + kept_rows(d['rows'])
-    if k == 'b-seq': return [b for i in d['items'] for b in broken(i)]
-    if k in ('b-map', 'i-map'): return [b for e in d['es'] for b in broken(e)]
-    if k == 'b-flow': return broken_flow(d['flow']) + (['key-found'] if key_end(d['flow'][1]) is not None else []) + (['marker'] if d['flow'][1] in (b'---', b'...') else [])
-    if k == 'i-flow': return broken_flow(d['flow']) + (['key-found'] if key_end(d['flow'][1]) is not None else [])
-    if k == 'i-null': return []
-    if k == 'i-block': return broken(d['block'])
+    if k == 'd_none': return kept_rows(d['rows'])
+    if k == 'd_one': return broken(d['block']) + kept_rows(d['rows'])
+    if k == 'b_seq': return [b for i in d['items'] for b in broken(i)]
+    if k in ('b_map', 'i_map'): return [b for e in d['es'] for b in broken(e)]
+    if k == 'b_flow': return broken_flow(d['flow']) + (['key-found'] if key_end(d['flow'][1]) is not None else []) + (['marker'] if d['flow'][1] in (b'---', b'...') else [])
+    if k == 'i_flow': return broken_flow(d['flow']) + (['key-found'] if key_end(d['flow'][1]) is not None else [])
+    if k == 'i_null': return []
+    if k == 'i_block': return broken(d['block'])
     out = broken_flow(d['keyd'][0]) + (['question'] if d['s'][:1] == b'?' else [])
     c = d['rows'][0][2]
     if key_end(c) != len(d['s']): out.append('key-end')
-    if k == 'e-flow': out += broken_flow(d['flow'])
-    if k == 'e-block': out += broken(d['block'])
-    if k == 'e-literal' and d['lit']['k'] == 'l-lines' and d['chomp'] == 'clip' and d['lit']['lines'][-1][2] == 'eof': out.append('clip-at-end')
+    if k == 'e_flow': out += broken_flow(d['flow'])
+    if k == 'e_block': out += broken(d['block'])
+    if k == 'e_literal' and d['lit']['k'] == 'l_lines' and d['chomp'] == 'clip' and d['lit']['lines'][-1][2] == 'eof': out.append('clip-at-end')
     return out
 
 
@@ -377,7 +377,7 @@ def tree_term(r):
         if y[0] == 'str': return '(Tree.str %s)' % lit(y[1])
         if y[0] == 'seq':
             out = 'Tree.end'
-            for x in reversed(y[1]): out = '(Tree._▸_ %s %s)' % (go(x), out)
+            for x in reversed(y[1]): out = '(Tree.◌▸◌ %s %s)' % (go(x), out)
             return '(Tree.seq %s)' % out
         out = 'Tree.done'
         for k, v in reversed(y[1]): out = '(Tree.pair %s %s %s)' % (lit(k), go(v), out)
@@ -386,44 +386,44 @@ def tree_term(r):
 
 
 def core_name(t):
-    if t in NULLS: return 'to-null tt'
-    if t in TRUES: return 'to-true tt'
-    if t in FALSES: return 'to-false tt'
-    if R_INT.match(t): return 'to-decimal tt'
-    if R_OCT.match(t): return 'to-octal tt'
-    if R_HEX.match(t): return 'to-hex tt'
-    if R_FLOAT.match(t) or R_INF.match(t): return 'to-float tt tt'
-    return 'to-str tt'
+    if t in NULLS: return 'to_null tt'
+    if t in TRUES: return 'to_true tt'
+    if t in FALSES: return 'to_false tt'
+    if R_INT.match(t): return 'to_decimal tt'
+    if R_OCT.match(t): return 'to_octal tt'
+    if R_HEX.match(t): return 'to_hex tt'
+    if R_FLOAT.match(t) or R_INF.match(t): return 'to_float tt tt'
+    return 'to_str tt'
 
 
 def flow_term(d):
     k = d[0]
-    if k == 'plain': return '(f-plain (is-plain %s %s tt) (%s))' % ('flow-' + d[3], lit(d[1]), core_name(d[1]))
+    if k == 'plain': return '(f_plain (is_plain_lem %s %s tt) (%s))' % ('flow_' + d[3], lit(d[1]), core_name(d[1]))
     if k == 'double':
-        out = 'd-end'
+        out = 'd_end'
         for p in reversed(d[3]):
-            if p[0] == 'char': out = '(d-char tt %s)' % out
-            else: out = '(d-escaped %s %s)' % ({ord('n'): 'esc-n', ord('t'): 'esc-t', ord('r'): 'esc-r', ord('0'): 'esc-0', 0x22: 'esc-quote', 0x5c: 'esc-back', 0x2f: 'esc-slash'}[p[1]], out)
-        return '(f-quoted (q-double {t = %s} {v = %s} %s refl))' % (lit(d[1][1:-1]), lit(d[2][1]), out)
+            if p[0] == 'char': out = '(d_char tt %s)' % out
+            else: out = '(d_escaped %s %s)' % ({ord('n'): 'esc_n', ord('t'): 'esc_t', ord('r'): 'esc_r', ord('0'): 'esc_0', 0x22: 'esc_quote', 0x5c: 'esc_back', 0x2f: 'esc_slash'}[p[1]], out)
+        return '(f_quoted (q_double {t = %s} {v = %s} %s refl))' % (lit(d[1][1:-1]), lit(d[2][1]), out)
     if k == 'single':
-        out = 's-end'
-        for p in reversed(d[3]): out = '(%s)' % ('s-char tt ' + out if p[0] == 'char' else 's-twice ' + out)
-        return '(f-quoted (q-single {t = %s} {v = %s} %s refl))' % (lit(d[1][1:-1]), lit(d[2][1]), out)
+        out = 's_end'
+        for p in reversed(d[3]): out = '(%s)' % ('s_char tt ' + out if p[0] == 'char' else 's_twice ' + out)
+        return '(f_quoted (q_single {t = %s} {v = %s} %s refl))' % (lit(d[1][1:-1]), lit(d[2][1]), out)
     first, parts = d[3]
     pre = 's' if k == 'seq' else 'F.m'
     out = None
     for p in reversed(parts):
-        if p[0] == 'close': out = '(%s-close refl)' % pre
-        elif p[0] == 'last': out = '(%s-last %d %s refl)' % (pre, p[2], flow_term(p[1]) if k == 'seq' else pair_term(p[1]))
-        else: out = '(%s-more %d %d %s %s refl)' % (pre, p[2], p[3], flow_term(p[1]) if k == 'seq' else pair_term(p[1]), out)
-    return '(f-%s %d %s refl)' % (k, first, out)
+        if p[0] == 'close': out = '(%s_close refl)' % pre
+        elif p[0] == 'last': out = '(%s_last %d %s refl)' % (pre, p[2], flow_term(p[1]) if k == 'seq' else pair_term(p[1]))
+        else: out = '(%s_more %d %d %s %s refl)' % (pre, p[2], p[3], flow_term(p[1]) if k == 'seq' else pair_term(p[1]), out)
+    return '(f_%s %d %s refl)' % (k, first, out)
 
 
 def pair_term(p):
     q = p[1]
-    if p[0] == 'null': return '(p-null %d %s refl)' % (q[1], flow_term(q[0]))
-    if p[0] == 'value': return '(p-value %d %d %s %s refl)' % (q[1], q[2], flow_term(q[0]), flow_term(q[3]))
-    return '(p-adjacent %d %s tt %s refl)' % (q[1], flow_term(q[0]), flow_term(q[2]))
+    if p[0] == 'null': return '(p_null %d %s refl)' % (q[1], flow_term(q[0]))
+    if p[0] == 'value': return '(p_value %d %d %s %s refl)' % (q[1], q[2], flow_term(q[0]), flow_term(q[3]))
+    return '(p_adjacent %d %s tt %s refl)' % (q[1], flow_term(q[0]), flow_term(q[2]))
 
 
 def row_term(r):
@@ -442,39 +442,39 @@ def rows_term(rows):
     for k in range(len(rows)):
         for a in range(len(every)):
             if every[a:a + len(rows) - k] == rows[k:]:
-                return '(%s%s-from %d %d)' % (''.join('(%s) ∷ ' % row_term(r) for r in rows[:k]), name, a, len(rows) - k)
+                return '(%s%s_from %d %d)' % (''.join('(%s) ∷ ' % row_term(r) for r in rows[:k]), name, a, len(rows) - k)
     return '(%s)' % rows_list(rows) if rows else '[]'
 
 
 def comments_term(cs):
-    out = 'c-end'
-    for c in cs: out = '(c-more tt %s)' % out
+    out = 'c_end'
+    for c in cs: out = '(c_more tt %s)' % out
     return out
 
 
 def trail_term(trail):
-    out = 't-none'
+    out = 't_none'
     after = [t for t in trail if t[0] == 'after']
     for t in reversed(trail):
         if t[0] == 'comment':
             k = indent_of(t[1])
-            out = '(t-comment %d %s (omega arith) tt %s refl)' % (k, lit(t[1][k + 1:]), comments_term(after))
-        elif t[0] == 'blank': out = '(t-blank %d (omega arith) %s refl)' % (len(t[1]), out)
+            out = '(t_comment %d %s (omega arith) tt %s refl)' % (k, lit(t[1][k + 1:]), comments_term(after))
+        elif t[0] == 'blank': out = '(t_blank %d (omega arith) %s refl)' % (len(t[1]), out)
     return out
 
 
 def literal_term(d):
     l = d['lit']
-    if l['k'] == 'l-nothing': return '(l-nothing %d %s)' % (l['m'], trail_term(l['trail']))
+    if l['k'] == 'l_nothing': return '(l_nothing %d %s)' % (l['m'], trail_term(l['trail']))
     out = None
     for bl, t, b in reversed(l['lines']):
-        bs = 'l-none'
-        for k, _ in reversed(bl): bs = '(l-empty {k = %d} (omega arith) %s)' % (k, bs)
+        bs = 'l_none'
+        for k, _ in reversed(bl): bs = '(l_empty {k = %d} (omega arith) %s)' % (k, bs)
         blanks = [('blank', k, c) for k, c in bl]
         mine = blanks + [('body', l['m'], t, b)]
-        one = '(l-text {bs = %s} %s %s tt tt refl refl)' % (rows_term(blanks), lit(t), bs)
-        out, rest = ('(l-last %s)' % one, mine) if out is None else ('(l-next {xs = %s} {ys = %s} %s %s refl refl)' % (rows_term(mine), rows_term(rest), one, out), mine + rest)
-    return '(l-lines {xs = %s} {ys = %s} {m = %d} (omega arith) %s tt %s refl refl)' % (rows_term(rest), rows_term([('note', t[1], t[2]) for t in l['trail']]), l['m'], out, trail_term(l['trail']))
+        one = '(l_text {bs = %s} %s %s tt tt refl refl)' % (rows_term(blanks), lit(t), bs)
+        out, rest = ('(l_last %s)' % one, mine) if out is None else ('(l_next {xs = %s} {ys = %s} %s %s refl refl)' % (rows_term(mine), rows_term(rest), one, out), mine + rest)
+    return '(l_lines {xs = %s} {ys = %s} {m = %d} (omega arith) %s tt %s refl refl)' % (rows_term(rest), rows_term([('note', t[1], t[2]) for t in l['trail']]), l['m'], out, trail_term(l['trail']))
 
 
 def key_term(d): return '(key %s %s tt refl tt)' % (lit(d['keyd'][1]), flow_term(d['keyd'][0]))
@@ -483,30 +483,30 @@ def key_term(d): return '(key %s %s tt refl tt)' % (lit(d['keyd'][1]), flow_term
 def pairs_term(es):
     out = None
     for e in reversed(es):
-        out, rest = ('(B.m-last %s)' % term(e), e['rows']) if out is None else ('(B.m-more {xs = %s} {ys = %s} %s %s refl)' % (rows_term(e['rows']), rows_term(rest), term(e), out), e['rows'] + rest)
+        out, rest = ('(B.m_last %s)' % term(e), e['rows']) if out is None else ('(B.m_more {xs = %s} {ys = %s} %s %s refl)' % (rows_term(e['rows']), rows_term(rest), term(e), out), e['rows'] + rest)
     return out
 
 
 def term(d):
     k = d['k']
     cs = comments_term(d['cs']) if 'cs' in d else None
-    if k == 'b-seq':
+    if k == 'b_seq':
         out = None
         for e in reversed(d['items']):
-            out, rest = ('(i-last %s)' % term(e), e['rows']) if out is None else ('(i-more {xs = %s} {ys = %s} %s %s refl)' % (rows_term(e['rows']), rows_term(rest), term(e), out), e['rows'] + rest)
-        return '(b-seq %s)' % out
-    if k == 'b-map': return '(b-map %s)' % pairs_term(d['es'])
-    if k == 'b-flow': return '(b-flow %s tt %s refl)' % (flow_term(d['flow']), cs)
-    if k == 'i-flow': return '(i-flow %s tt %s tt %s refl)' % (lit(d['x']), flow_term(d['flow']), cs)
-    if k == 'i-null': return '(i-null tt %s refl)' % cs
-    if k == 'i-block': return '(i-block {m = %d} {k = %d} {cs = %s} {xs = %s} tt %s (omega arith) %s refl)' % (d['rows'][0][1], d['block']['rows'][0][1], rows_term(d['cs']), rows_term(d['block']['rows']), cs, term(d['block']))
-    if k == 'i-map': return '(i-map {t = %s} %d refl %s refl)' % (lit(d['inner'][0][2]), d['j'], pairs_term(d['es']))
-    if k == 'e-flow': return '(e-flow %s %s tt %s tt %s refl)' % (lit(d['x']), key_term(d), flow_term(d['flow']), cs)
-    if k == 'e-null': return '(e-null %s tt %s refl)' % (key_term(d), cs)
-    if k == 'e-block': return '(e-block {n = %d} {m = %d} {cs = %s} {xs = %s} %s tt %s (omega arith) %s refl)' % (d['rows'][0][1], d['block']['rows'][0][1], rows_term(d['cs']), rows_term(d['block']['rows']), key_term(d), cs, term(d['block']))
-    if k == 'e-literal': return '(e-literal {n = %d} %s %s %s tt tt %s refl)' % (d['rows'][0][1], lit(d['x']), d['chomp'], key_term(d), literal_term(d))
-    if k == 'd-none': return '(d-none %s)' % comments_term(d['rows'])
-    return '(d-one {cs = %s} {xs = %s} {m = %d} %s %s refl)' % (rows_term(d['cs']), rows_term(d['block']['rows']), d['block']['rows'][0][1], cs, term(d['block']))
+            out, rest = ('(i_last %s)' % term(e), e['rows']) if out is None else ('(i_more {xs = %s} {ys = %s} %s %s refl)' % (rows_term(e['rows']), rows_term(rest), term(e), out), e['rows'] + rest)
+        return '(b_seq %s)' % out
+    if k == 'b_map': return '(b_map %s)' % pairs_term(d['es'])
+    if k == 'b_flow': return '(b_flow %s tt %s refl)' % (flow_term(d['flow']), cs)
+    if k == 'i_flow': return '(i_flow %s tt %s tt %s refl)' % (lit(d['x']), flow_term(d['flow']), cs)
+    if k == 'i_null': return '(i_null tt %s refl)' % cs
+    if k == 'i_block': return '(i_block {m = %d} {k = %d} {cs = %s} {xs = %s} tt %s (omega arith) %s refl)' % (d['rows'][0][1], d['block']['rows'][0][1], rows_term(d['cs']), rows_term(d['block']['rows']), cs, term(d['block']))
+    if k == 'i_map': return '(i_map {t = %s} %d refl %s refl)' % (lit(d['inner'][0][2]), d['j'], pairs_term(d['es']))
+    if k == 'e_flow': return '(e_flow %s %s tt %s tt %s refl)' % (lit(d['x']), key_term(d), flow_term(d['flow']), cs)
+    if k == 'e_null': return '(e_null %s tt %s refl)' % (key_term(d), cs)
+    if k == 'e_block': return '(e_block {n = %d} {m = %d} {cs = %s} {xs = %s} %s tt %s (omega arith) %s refl)' % (d['rows'][0][1], d['block']['rows'][0][1], rows_term(d['cs']), rows_term(d['block']['rows']), key_term(d), cs, term(d['block']))
+    if k == 'e_literal': return '(e_literal {n = %d} %s %s %s tt tt %s refl)' % (d['rows'][0][1], lit(d['x']), d['chomp'], key_term(d), literal_term(d))
+    if k == 'd_none': return '(d_none %s)' % comments_term(d['rows'])
+    return '(d_one {cs = %s} {xs = %s} {m = %d} %s %s refl)' % (rows_term(d['cs']), rows_term(d['block']['rows']), d['block']['rows'][0][1], cs, term(d['block']))
 
 
 def kept_flow(d):
@@ -533,23 +533,23 @@ def kept_many(xs):
 
 def kept_term(d):
     k = d['k']
-    if k == 'd-none': return 'tt'
-    if k == 'd-one': return kept_term(d['block'])
-    if k == 'b-seq': return kept_many(d['items'])
-    if k in ('b-map', 'i-map'): return kept_many(d['es'])
-    if k == 'b-flow': return '(%s, refl, refl)' % kept_flow(d['flow'])
-    if k == 'i-flow': return '(%s, refl)' % kept_flow(d['flow'])
-    if k == 'i-null': return 'tt'
-    if k == 'i-block': return kept_term(d['block'])
+    if k == 'd_none': return 'tt'
+    if k == 'd_one': return kept_term(d['block'])
+    if k == 'b_seq': return kept_many(d['items'])
+    if k in ('b_map', 'i_map'): return kept_many(d['es'])
+    if k == 'b_flow': return '(%s, refl, refl)' % kept_flow(d['flow'])
+    if k == 'i_flow': return '(%s, refl)' % kept_flow(d['flow'])
+    if k == 'i_null': return 'tt'
+    if k == 'i_block': return kept_term(d['block'])
     key = '(%s, refl)' % kept_flow(d['keyd'][0])
-    if k == 'e-flow': return '(%s, refl, %s)' % (key, kept_flow(d['flow']))
-    if k == 'e-null': return '(%s, refl)' % key
-    if k == 'e-block': return '(%s, refl, %s)' % (key, kept_term(d['block']))
+    if k == 'e_flow': return '(%s, refl, %s)' % (key, kept_flow(d['flow']))
+    if k == 'e_null': return '(%s, refl)' % key
+    if k == 'e_block': return '(%s, refl, %s)' % (key, kept_term(d['block']))
     return '(%s, refl, tt)' % key
 
 
 def rows_kept_term(rows):
-    """one proof for each row, by the states of `keptRows`"""
+    """one proof for each row, by the states of `KeptRows`"""
     out = []
     d, gap = None, False
     for row in rows:
@@ -601,38 +601,38 @@ def example(name, text):
     d = derive(text)
     bad = broken(d)
     assert not bad, bad
-    pts = name + '-text' if all(b < 0x80 for b in text) else '(' + ' ∷ '.join(str(ord(c)) for c in text.decode()) + ' ∷ [])'
+    pts = name + '_text' if all(b < 0x80 for b in text) else '(' + ' ∷ '.join(str(ord(c)) for c in text.decode()) + ' ∷ [])'
     rep = 'none' if d['rep'] == 'none' else 'some ' + rep_term(d['rep'])
     rows_term.text = name, d['rows']
-    return '''%(name)s-text : List ℕ
-%(name)s-text = %(t)s
+    return '''%(name)s_text : List ℕ
+%(name)s_text = %(t)s
 
-%(name)s-rows : List Row
-%(name)s-rows = %(rows)s
+%(name)s_rows : List Row
+%(name)s_rows = %(rows)s
 
 -- so many of them from a place on
-%(name)s-from : ℕ → ℕ → List Row
-%(name)s-from a n = take n (drop a %(name)s-rows)
+%(name)s_from : ℕ → ℕ → List Row
+%(name)s_from a n = take n (drop a %(name)s_rows)
 
-abbrev %(name)s-means : Option Rep
-%(name)s-means = %(rep)s
+abbrev %(name)s_means : Option Rep
+%(name)s_means = %(rep)s
 
-%(name)s-is : Document %(name)s-rows %(name)s-means
-unfolding %(name)s-rows %(name)s-from All-open
+%(name)s-is : Document %(name)s_rows %(name)s_means
+unfolding %(name)s_rows %(name)s_from All-open
 %(name)s-is = %(term)s
 
-%(name)s : Stream %(name)s-text %(name)s-means
-unfolding %(name)s-text %(name)s-rows All-open
-%(name)s = record { rows = %(name)s-rows; is = refl; ends = tt; bare = tt; printable = record { points = %(pts)s; is = refl; are = tt }; document = %(name)s-is }
+%(name)s : Stream %(name)s_text %(name)s_means
+unfolding %(name)s_text %(name)s_rows All-open
+%(name)s = record { rows = %(name)s_rows; is = refl; ends = tt; bare = tt; printable = record { points = %(pts)s; is = refl; are = tt }; document = %(name)s-is }
 
 %(name)s-kept : Kept %(name)s
-unfolding %(name)s %(name)s-rows %(name)s-is %(name)s-from All-open
-%(name)s-kept = record { document = %(kept)s; lines = %(keptRows)s }
+unfolding %(name)s %(name)s_rows %(name)s-is %(name)s_from All-open
+%(name)s-kept = record { document = %(kept)s; lines = %(lines)s }
 
-%(name)s-tree : treeOf %(name)s-means ≡ some %(tree)s
+%(name)s-tree : tree_of %(name)s_means ≡ some %(tree)s
 unfolding All-open
 %(name)s-tree = refl
-''' % dict(name=name, t=lit(text), rows=rows_list(d['rows']), rep=rep, term=term(d), pts=pts, kept=kept_term(d), keptRows=rows_kept_term(d['rows']), tree=tree_term(d['rep']))
+''' % dict(name=name, t=lit(text), rows=rows_list(d['rows']), rep=rep, term=term(d), pts=pts, kept=kept_term(d), lines=rows_kept_term(d['rows']), tree=tree_term(d['rep']))
 
 
 if __name__ == '__main__':

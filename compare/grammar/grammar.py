@@ -99,7 +99,7 @@ def core(t):
     return ('str', t), []
 
 
-# ---- asYaml
+# ---- as_yaml
 class NoYaml(Exception):
     pass
 
@@ -163,7 +163,7 @@ def opens(c): return c.endswith(b': |') or c.endswith(b': |-')
 
 
 def kept_rows(rows):
-    """the broken conditions, in the order of the rows; the states are Closed (None), Under d, Gap d"""
+    """the broken conditions, in the order of the rows; the states are closed (None), under d, gap d"""
     bad = []
     d, gap = None, False
     for row in rows:

@@ -1,5 +1,5 @@
-//! The drum reader for Rust: safe functions over the static library of crate `drum`, whose functions are proved. The buffers are the caller's,
-//! nothing is kept between calls, and all may be called on several threads.
+//! The drum reader for Rust: safe functions over the static library of crate `drum_c`, whose functions are proved. The buffers are the
+//! caller's, nothing is kept between calls, and all may be called on several threads.
 //!
 //! `read` needs no buffers of the caller; the other functions allocate nothing.
 
