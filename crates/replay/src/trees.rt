@@ -3,7 +3,6 @@ use crate::print::{
     print_byte, print_number, print_ok, print_other, print_refusal, print_spaced, print_written,
 };
 use item::LIMIT;
-use refusal::Refusal;
 use std::io;
 use tree::TreeAnswer;
 
@@ -30,15 +29,12 @@ pub(crate) fn print_tree<R: Print + AllocGlobal>(rt: &R, text: &[u8]) -> io::Res
 }
 
 // Whether the work was too short.
-fn is_short(rt: &impl Print, answer: &TreeAnswer, work: &[u8]) -> io::Result<bool> {
+fn is_short(rt: &impl Print, answer: TreeAnswer, work: &[u8]) -> io::Result<bool> {
     match answer {
         TreeAnswer::Read { bytes: _ } => Ok(false),
         TreeAnswer::Refused(e) => {
             print_other(rt, work, 0, 0)?;
-            match e {
-                Refusal::WorkTooShort => Ok(true),
-                _ => Ok(false),
-            }
+            Ok(e.told().number == 50)
         }
     }
 }
@@ -58,7 +54,7 @@ fn print_size(rt: &impl Print, lent: usize, answer: TreeAnswer) -> io::Result<()
 fn print_least_of(rt: &impl Print, text: &[u8], work: &mut [u8]) -> io::Result<()> {
     for n in 0..work.len() {
         let answer = tree::read_tree(text, &mut work[0..n]);
-        if !is_short(rt, &answer, &work[0..n])? {
+        if !is_short(rt, answer, &work[0..n])? {
             return print_size(rt, n, answer);
         }
     }
