@@ -1,6 +1,6 @@
 -- What each definition comes to, by the lines at its place. Assumes nothing.
-use Rattle.std.specs.Prelude.{if◌then◌else◌}
-use mathlib.Core.Path.{◌≡◌, refl, ap, ◌∙◌, subst}
+use Rattle.std.specs.Prelude.{Result, Ok, Err, if◌then◌else◌}
+use mathlib.Core.Path.{◌≡◌, refl, ap, ◌∙◌}
 use Prim.Native.Nat.{ℕ, zero, suc, ◌+◌, ◌-◌, ◌≤◌, ◌<◌}
 use native.Mathlib.Omega.{arith}
 use mathlib.Core.List.{List, [], ◌∷◌}
@@ -12,56 +12,39 @@ use Rattle.refusal.specs.Base.{Answer, good, refused, ◌>>=◌, given, maybe, b
 use Rattle.refusal.specs.declared.Refusal.{Refusal}
 use Rattle.utf8.specs.White.{trim}
 use Rattle.item.specs.Tree.{Shape, Node, Yaml, null}
+use Rattle.writer.specs.declared.Writer.{Writer}
 use Rattle.lines.specs.Lines.{Line}
 use Rattle.lines.specs.Dash.{dashed}
 use Rattle.scalar.specs.Key.{key_end}
 use Rattle.scalar.specs.Read.{charge}
 use Rattle.scalar.specs.Contract.{Refuses}
-use Rattle.literal.specs.declared.BlockRead.{BlockRead}
-use Rattle.literal.specs.declared.BlockRead.TheVariants.{Done, Refused}
 use Rattle.literal.specs.Literal.{Read, leaf, literal}
 use Rattle.literal.specs.Contract.{WroteBlock, AgreesBlock}
 use Rattle.block.specs.declared.Opening.{Opening}
 use Rattle.block.specs.declared.Opening.TheVariants.{Dash, Key, Flow}
 use Rattle.block.specs.declared.Behind.{Behind}
 use Rattle.block.specs.declared.Behind.TheVariants.{Nothing, Literal, Stripped, Value}
-use Rattle.block.specs.declared.KeyRead.{KeyRead}
-use Rattle.block.specs.declared.KeyRead.TheVariants.{Done as Keyed, Refused as Unkeyed}
-use Rattle.block.specs.declared.EntryRead.{EntryRead}
-use Rattle.block.specs.declared.EntryRead.TheVariants.{Done as Took, Refused as Stopped}
-use Rattle.block.specs.Block.{Inside, line_value, child, block_key, value_behind, entry_at, block_map, inline_map, item_behind, block_seq, block_of, inline_of, inside_of, within, block}
-use Rattle.block.specs.Contract.{opening_of, behind_of, WroteKey, AgreesKey, WroteEntry, AgreesEntry}
+use Rattle.block.specs.Block.{Inside, line_value, child, block_key, value_behind, entry_at, entries_of, block_map, inline_map, item_behind, block_seq, block_of, inline_of, inside_of, within, block}
+use Rattle.block.specs.Contract.{opening_of, behind_of, WroteEntry}
 
 -- an answer that is equal to another, from an earlier line on
-pub agrees-block : {s : Shape} (x y : Read (Node s)) (ls : List Line) (j i : ℕ) (old new : List ℕ) (at : ℕ) (r : BlockRead) → x ≡ y → j ≤ i
-    → AgreesBlock y ls i old new at r → AgreesBlock x ls j old new at r
-agrees-block x y ls j i old new at (Done n u) e h w =
-    record { tree = w.tree; is = e ∙ w.is; bytes = w.bytes; grows = w.grows; fits = w.fits; on = omega (arith, w.on); within = w.within }
-agrees-block x y ls j i old new at (Refused z) e h w = record { is = e ∙ w.is; kept = w.kept }
+pub agrees-block : {s : Shape} (x y : Read (Node s)) (ls : List Line) (j i : ℕ) (old new : Writer) (r : Result ℕ Refusal) → x ≡ y → j ≤ i
+    → AgreesBlock y ls i old new r → AgreesBlock x ls j old new r
+agrees-block x y ls j i old new (Ok n) e h w = record { tree = w.tree; is = e ∙ w.is; appends = w.appends; on = omega (arith, w.on); within = w.within }
+agrees-block x y ls j i old new (Err z) e h w = record { is = e ∙ w.is; keeps = w.keeps }
 
--- what a callee's answer says in each arm of a `match` on it
-module _ {s : Shape} (x : Read (Node s)) (ls : List Line) (i : ℕ) (old new : List ℕ) (at : ℕ) (r : BlockRead) (w : AgreesBlock x ls i old new at r) where
-  pub block-done : (n u : ℕ) → r ≡ Done n u → WroteBlock x ls i old new at n u
-  block-done n u e = subst (AgreesBlock x ls i old new at) e w
+pub wrote-block : {s : Shape} (x y : Read (Node s)) (ls : List Line) (i : ℕ) (old new : Writer) (n : ℕ) → x ≡ y → WroteBlock y ls i old new n → WroteBlock x ls i old new n
+wrote-block x y ls i old new n e w = record { tree = w.tree; is = e ∙ w.is; appends = w.appends; on = w.on; within = w.within }
 
-  pub block-stopped : (z : Refusal) → r ≡ Refused z → Refuses x old new at z
-  block-stopped z e = subst (AgreesBlock x ls i old new at) e w
+pub refuses-as : {A : Type 0} (x y : Answer A) (old new : Writer) (z : Refusal) → x ≡ y → Refuses y old new z → Refuses x old new z
+refuses-as x y old new z e r = record { is = e ∙ r.is; keeps = r.keeps }
 
-module _ (x : Answer (List ℕ × ℕ)) (old new : List ℕ) (at : ℕ) (r : KeyRead) (w : AgreesKey x old new at r) where
-  pub key-done : (u : ℕ) → r ≡ Keyed u → WroteKey x old new at u
-  key-done u e = subst (AgreesKey x old new at) e w
+-- the entries of a mapping, by the code's numbers
+pub entries-as : (c d levels x y sum : ℕ) (ls : List Line) → c ≡ d → x ≡ y → entries_of d (within d levels) y sum ls ≡ entries_of c (within c levels) x sum ls
+entries-as c d levels x y sum ls p q = rw (p, q)
 
-  pub key-stopped : (z : Refusal) → r ≡ Unkeyed z → Refuses x old new at z
-  key-stopped z e = subst (AgreesKey x old new at) e w
-
-module _ (x y : Read (List ℕ × Yaml)) (ls : List Line) (i : ℕ) (old new : List ℕ) (at : ℕ) (e : x ≡ y) (r : EntryRead) (w : AgreesEntry y ls i old new at r) where
-  pub entry_done : (n k u : ℕ) → r ≡ Took n k u → WroteEntry x ls i old new at n k u
-  entry_done n k u q =
-      let v : WroteEntry y ls i old new at n k u = subst (AgreesEntry y ls i old new at) q w in
-      record { key = v.key; tree = v.tree; is = e ∙ v.is; bytes' = v.bytes'; ends = v.ends; grows = v.grows; fits = v.fits; on = v.on; within = v.within }
-
-  pub entry-stopped : (z : Refusal) → r ≡ Stopped z → Refuses x old new at z
-  entry-stopped z q = let v : Refuses y old new at z = subst (AgreesEntry y ls i old new at) q w in record { is = e ∙ v.is; kept = v.kept }
+pub wrote-entry : (x y : Read (List ℕ × Yaml)) (ls : List Line) (i : ℕ) (old new : Writer) (n k : ℕ) → x ≡ y → WroteEntry y ls i old new n k → WroteEntry x ls i old new n k
+wrote-entry x y ls i old new n k e v = record { key = v.key; tree = v.tree; is = e ∙ v.is; appends = v.appends; ends = v.ends; on = v.on; within = v.within }
 
 pub within-levels : (cap n : ℕ) → (within cap n).levels ≡ n
 unfolding within inside_of

@@ -1,12 +1,12 @@
 -- Where the loops over lines stand, what each of their turns comes to, and what closes a collection. Assumes nothing.
-use mathlib.Core.Path.{◌≡◌, refl, sym, ap, ◌∙◌}
+use mathlib.Core.Path.{◌≡◌, refl, sym, ap, ◌∙◌, subst}
 use Prim.Native.Nat.{ℕ, zero, suc, ◌+◌, ◌-◌, ◌≤◌, ◌<◌}
 use native.Mathlib.Omega.{arith}
 use mathlib.Core.List.{List, [], ◌∷◌, ◌++◌, append_assoc}
 use mathlib.Core.Bool.{Bool, true, false, ◌&&◌}
 use mathlib.Core.Option.{none, some}
 use lib.ListN.{length, take, drop, length-append, length-drop}
-use lib.Seq.{sets, length-sets, drop-drop, drop_at, take_at}
+use lib.Seq.{sets-eq, drop_at, take_at, take_all, length-take-le}
 use Rattle.refusal.specs.Base.{good, refused, ◌>>=◌, ◌>>◌, ensure, maybe}
 use Rattle.refusal.specs.Told.{refusal}
 use Rattle.refusal.specs.declared.Refusal.{Refusal}
@@ -14,18 +14,19 @@ use Rattle.refusal.specs.declared.Refusal.TheVariants.{KeyTwice, WorkTooShort}
 use Rattle.utf8.specs.White.{trim_start}
 use Rattle.item.specs.Tree.{Yaml, seq, dict, Items, end, ◌◂◌, Entries, done, pair, add, has_key}
 use Rattle.item.specs.Encode.{head, item, encode}
-use Rattle.item.proofs.Size.{head-length, item-length}
+use Rattle.item.proofs.Size.{head-length}
 use Rattle.item.proofs.Exact.{and_right}
-use Rattle.item.proofs.Runs.{sets-append}
+use Rattle.writer.specs.declared.Writer.{Writer}
+use Rattle.writer.specs.Writing.{cap_of, room_of, Appends, Begins, Fills, CutsBack}
+use Rattle.writer.proofs.Laws.{appends_none, appends_more, filled, len_appended, keeps_appended, keeps_begun, keeps_same, keeps_more, keeps_cut}
 use Rattle.entries.specs.Entries.{Lies}
-use Rattle.entries.proofs.Walking.{lies-between}
 use Rattle.lines.specs.Lines.{Line}
 use Rattle.scalar.specs.Contract.{Refuses}
 use Rattle.flow.specs.Flow.{fresh}
 use Rattle.entries.proofs.Twice.{add-bytes}
-use Rattle.flow.proofs.Invariants.{kept-before, kept_less, headed, stored-front, lies-kept, lies-stored, snoc-bytes}
+use Rattle.flow.proofs.Invariants.{lies-kept, lies-stored, snoc-bytes}
 use Rattle.literal.specs.Literal.{Read}
-use Rattle.literal.specs.declared.BlockRead.TheVariants.{Done, Refused}
+use Rattle.std.specs.Prelude.{Ok, Err}
 use Rattle.literal.specs.Contract.{WroteBlock}
 use Rattle.block.specs.Block.{Inside, key_at, entry_at, map_turn, map_lines, entries_of, block_map, inline_map, item_behind, seq_turn, seq_lines, items_of, block_seq, within}
 use Rattle.block.specs.Contract.{key_here, dash_here, WroteEntry, Judged, Ran}
@@ -34,58 +35,61 @@ use Rattle.block.proofs.Judging.{judged-none, judged-as, judged-add}
 
 -- ---- an entry behind others, as the search for its key finds them
 
--- `front` and the entry of `key` and `tree` behind it, written from `from` on; the entry begins at `p`
-module _ (old new front key tree : List ℕ) (from p e q : ℕ) (b : new ≡ sets old from (front ++ (item 3 key ++ tree)))
-    (u : p ≡ from + length front) (k : e ≡ p + 6 + length key) (g : q ≡ e + length tree) (f : q ≤ length old) where
-  all-long : length (front ++ (item 3 key ++ tree)) ≡ q - from
-  all-long = rw (length-append, length-append, item-length 3 key) (omega arith)
+-- the bytes that are used, once some more are put
+pub used_appended : {a b : Writer} {x : List ℕ} → Appends a b x → take b.used b.out.now ≡ take a.used a.out.now ++ x
+used_appended {a} {b} {x} p =
+    let f : a.used + length x ≤ length a.out.now = omega (arith, p.used, b.within, len_appended p) in
+    let n : length (take a.used a.out.now ++ x) ≡ b.used = omega (arith, p.used, length-append (take a.used a.out.now) x, length-take-le a.used a.out.now a.within) in
+    rw (p.out, sets-eq x a.out.now a.used f)
+    (take_at (take a.used a.out.now ++ x) (drop (a.used + length x) a.out.now) b.used n)
 
-  stored : drop from new ≡ (front ++ (item 3 key ++ tree)) ++ drop (from + length (front ++ (item 3 key ++ tree))) old
-  stored = ap (drop from) b ∙ stored-front old (front ++ (item 3 key ++ tree)) from (omega (arith, all-long))
+-- behind `before` bytes stand `front` and the entry of `key` and `tree`; it begins at `p`
+module _ (s before front key tree : List ℕ) (from p e : ℕ) (b : s ≡ before ++ (front ++ (item 3 key ++ tree)))
+    (n : length before ≡ from) (u : p ≡ from + length front) (k : e ≡ p + 6 + length key) where
+  pub before-is : take (p - from) (drop from s) ≡ front
+  before-is = ap (take (p - from)) (ap (drop from) b ∙ drop_at before (front ++ (item 3 key ++ tree)) from n) ∙ take_at front (item 3 key ++ tree) (p - from) (omega arith)
 
-  pub before-is : take (p - from) (drop from new) ≡ front
-  before-is = rw (stored, append_assoc) (take_at front _ (p - from) (omega arith))
-
-  pub key-is : take (e - (p + 6)) (drop (p + 6) new) ≡ key
+  pub key-is : take (e - (p + 6)) (drop (p + 6) s) ≡ key
   unfolding item
   key-is =
       let hd : List ℕ = head 3 (length key) in
-      let t : List ℕ = drop (from + length (front ++ (item 3 key ++ tree))) old in
-      let n : length (front ++ hd) ≡ length front + 6 = rw (length-append, head-length 3 (length key)) in
-      let r : (front ++ (hd ++ key ++ tree)) ++ t ≡ (front ++ hd) ++ (key ++ (tree ++ t)) = simp append_assoc in
-      ap (λ (m : ℕ). take (e - (p + 6)) (drop m new)) (let m : p + 6 ≡ from + (length front + 6) = omega arith in m)
-      ∙ ap (take (e - (p + 6))) (sym (drop-drop (length front + 6) from new) ∙ ap (drop (length front + 6)) (stored ∙ r) ∙ drop_at (front ++ hd) (key ++ (tree ++ t)) (length front + 6) n)
-      ∙ take_at key (tree ++ t) (e - (p + 6)) (omega arith)
+      let m : length (before ++ (front ++ hd)) ≡ p + 6 = rw (length-append, length-append, head-length 3 (length key)) (omega arith) in
+      let r : before ++ (front ++ ((hd ++ key) ++ tree)) ≡ (before ++ (front ++ hd)) ++ (key ++ tree) = simp append_assoc in
+      ap (take (e - (p + 6))) (ap (drop (p + 6)) (b ∙ r) ∙ drop_at (before ++ (front ++ hd)) (key ++ tree) (p + 6) m)
+      ∙ take_at key tree (e - (p + 6)) (omega arith)
 
 -- ---- the entries of a mapping
 
 -- the entries so far, from whose end the definition goes on as from the start unless a key stands twice among them; `turns` are left
-pub record Mapped (ls : List Line) (first indent levels : ℕ) (exact : Bool) (old : List ℕ) (at : ℕ) (out : List ℕ) (i p : ℕ) : Type 0 where
+pub record Mapped (ls : List Line) (first indent levels : ℕ) (exact : Bool) (old now : Writer) (i : ℕ) : Type 0 where
   pub got : Entries
   pub turns : ℕ
   pub enough : length (drop i ls) ≤ turns
-  pub judged : Judged (entries_of (length old) (within (length old) levels) indent at (drop first ls)) (map_lines (length old) (within (length old) levels) indent turns got p (drop i ls)) exact got
-  pub bytes : out ≡ sets old at (encode got)
-  pub used : p ≡ at + length (encode got)
-  pub kept : length out ≡ length old
-  pub room : p ≤ length old
+  pub judged : Judged (entries_of (cap_of old) (within (cap_of old) levels) indent old.used (drop first ls)) (map_lines (cap_of old) (within (cap_of old) levels) indent turns got now.used (drop i ls)) exact got
+  pub appends : Appends old now (encode got)
   pub on : first ≤ i
   pub within' : i ≤ length ls
 
-pub mapped-start : (ls : List Line) (first indent levels : ℕ) (exact : Bool) (old : List ℕ) (at : ℕ) → at ≤ length old → first ≤ length ls → Mapped ls first indent levels exact old at old first at
+pub mapped-start : (ls : List Line) (first indent levels : ℕ) (exact : Bool) (old : Writer) → first ≤ length ls → Mapped ls first indent levels exact old old first
 unfolding entries_of encode
-mapped-start ls first indent levels exact old at r h =
-    record { got = done; turns = length (drop first ls); enough = omega arith; judged = judged-none; bytes = refl; used = omega arith; kept = refl; room = r; on = omega arith; within' = h }
+mapped-start ls first indent levels exact old h =
+    record { got = done; turns = length (drop first ls); enough = omega arith; judged = judged-none; appends = appends_none old; on = omega arith; within' = h }
 
-module _ (ls : List Line) (first indent levels : ℕ) (exact : Bool) (old : List ℕ) (at : ℕ) (out : List ℕ) (i p : ℕ) (v : Mapped ls first indent levels exact old at out i p) where
+module _ (ls : List Line) (first indent levels : ℕ) (exact : Bool) (old out : Writer) (i : ℕ) (v : Mapped ls first indent levels exact old out i) where
   abbrev cap : ℕ
-  cap = length old
+  cap = cap_of old
+
+  abbrev p : ℕ
+  p = out.used
 
   abbrev inside : Inside
   inside = within cap levels
 
   abbrev answer : Read Entries
-  answer = entries_of cap inside indent at (drop first ls)
+  answer = entries_of cap inside indent old.used (drop first ls)
+
+  pub out-long : cap_of out ≡ cap
+  out-long = len_appended v.appends
 
   closes : (turns : ℕ) (rest : List Line) → key_here indent rest ≡ none → map_lines cap inside indent turns v.got p rest ≡ good (v.got, p, rest)
   unfolding map_lines map_turn key_here maybe
@@ -93,18 +97,21 @@ module _ (ls : List Line) (first indent levels : ℕ) (exact : Bool) (old : List
   closes (suc t) [] k = refl
   closes (suc t) (l ∷ rest) k = rw k
 
-  got-lies : Lies out at p v.got
-  got-lies = rw v.bytes (lies-stored old at p v.got v.used v.room)
+  got-lies : Lies out.out.now old.used p v.got
+  got-lies = subst (λ (l : List ℕ). Lies l old.used p v.got) (sym v.appends.out) (lies-stored old.out.now old.used p v.got v.appends.used (omega (arith, out.within, out-long)))
 
-  pub mapped_end : key_here indent (drop i ls) ≡ none → Ran answer ls first exact old out at (Done i p) p
+  pub mapped_end : key_here indent (drop i ls) ≡ none → Ran answer ls first exact old out (Ok i)
   mapped_end k =
       record {
         got = v.got;
         told = good (v.got, p, drop i ls);
         judged = judged-as v.judged (closes v.turns (drop i ls) k);
-        agrees = record { tree = v.got; is = refl; bytes = v.bytes; grows = v.used; fits = v.room; on = v.on; within = v.within' };
-        lies = got-lies;
+        agrees = record { tree = v.got; is = refl; appends = v.appends; on = v.on; within = v.within' };
       }
+
+  pub mapped_all : key_here indent (drop i ls) ≡ none → (run : Ran answer ls first exact old out (Ok i)) × Lies out.out.now old.used out.used run.got
+  unfolding mapped_end
+  mapped_all k = (mapped_end k, got-lies)
 
   module _ (l : Line) (rest : List Line) (e : drop i ls ≡ l ∷ rest) (split : ℕ) (k : key_here indent (drop i ls) ≡ some split) where
     abbrev entry : Read (List ℕ × Yaml)
@@ -119,131 +126,130 @@ module _ (ls : List Line) (first indent levels : ℕ) (exact : Bool) (old : List
         let m : key_at indent l ≡ some split = ap (key_here indent) (sym e) ∙ k in
         rw (e, m, n)
 
-    pub map-stops : {new : List ℕ} (z : Refusal) → length new ≡ length out → Refuses entry out new p z → Ran answer ls first exact old new at (Refused z) p
+    pub map-stops : (new : Writer) (z : Refusal) → Refuses entry out new z → Ran answer ls first exact old new (Err z)
     unfolding ◌>>=◌
-    map-stops {new} z n r =
+    map-stops new z r =
         record {
           got = v.got;
           told = refusal z;
           judged = judged-as v.judged (turn v.turns v.enough ∙ rw r.is);
-          agrees = record { is = refl; kept = kept_less at p out new (omega (arith, v.used)) r.kept ∙ ap (take at) v.bytes ∙ kept-before at old at (encode v.got) (omega arith) };
-          lies = lies-kept out new at p v.got r.kept (omega (arith, n, v.kept, v.room)) got-lies;
+          agrees = record { is = refl; keeps = keeps_more (keeps_appended v.appends) r.keeps };
         }
 
-    module _ (new : List ℕ) (j c q : ℕ) (w : WroteEntry entry ls (i + 1) out new p j c q) where
-      new_is : new ≡ sets old at (encode v.got ++ (item 3 w.key ++ encode w.tree))
-      new_is =
-          w.bytes' ∙ ap (λ (b : List ℕ). sets b p (item 3 w.key ++ encode w.tree)) v.bytes
-          ∙ ap (λ (m : ℕ). sets (sets old at (encode v.got)) m (item 3 w.key ++ encode w.tree)) v.used
-          ∙ sets-append (encode v.got) (item 3 w.key ++ encode w.tree) old at
+    -- an entry that is refused is taken back
+    pub map-cut : (mid new : Writer) (z : Refusal) → Refuses entry out mid z → CutsBack mid new p → (run : Ran answer ls first exact old new (Err z)) × Lies new.out.now old.used new.used run.got
+    unfolding map-stops
+    map-cut mid new z r b =
+        let c = keeps_cut r.keeps b in
+        let q : Lies new.out.now old.used p v.got = lies-kept out.out.now new.out.now old.used p v.got c.kept (omega (arith, new.within, b.used)) got-lies in
+        (map-stops new z (record { is = r.is; keeps = c }), subst (λ (u : ℕ). Lies new.out.now old.used u v.got) (sym b.used) q)
 
-      fits : q ≤ length old
-      fits = omega (arith, w.fits, v.kept)
+    module _ (new : Writer) (j c : ℕ) (w : WroteEntry entry ls (i + 1) out new j c) where
+      new_is : Appends old new (encode v.got ++ (item 3 w.key ++ encode w.tree))
+      new_is = appends_more v.appends w.appends
 
-      new-long : length new ≡ length old
-      new-long = ap length new_is ∙ length-sets old at (encode v.got ++ (item 3 w.key ++ encode w.tree))
+      abbrev bytes : List ℕ
+      bytes = take new.used new.out.now
 
-      before : take (p - at) (drop at new) ≡ encode v.got
-      before = before-is old new (encode v.got) w.key (encode w.tree) at p c q new_is v.used w.ends w.grows fits
+      front-long : length (take old.used old.out.now) ≡ old.used
+      front-long = length-take-le old.used old.out.now old.within
 
-      on-turn : Judged answer (fresh cap l.number w.key v.got >> map_lines cap inside indent (v.turns - 1) (add v.got w.key w.tree) q (drop j ls)) exact v.got
+      on-turn : Judged answer (fresh cap l.number w.key v.got >> map_lines cap inside indent (v.turns - 1) (add v.got w.key w.tree) new.used (drop j ls)) exact v.got
       unfolding ◌>>=◌
       on-turn = judged-as v.judged (turn v.turns v.enough ∙ rw w.is)
 
       -- what the search for the key among the entries before tells, if there is one
-      module _ (found : Bool) (s : (es : Entries) → take (p - at) (drop at new) ≡ encode es → found ≡ exact && has_key (take (c - (p + 6)) (drop (p + 6) new)) es) where
+      module _ (found : Bool) (s : (es : Entries) → take (p - old.used) (drop old.used bytes) ≡ encode es → found ≡ exact && has_key (take (c - (p + 6)) (drop (p + 6) bytes)) es) where
         found-is : found ≡ exact && has_key w.key v.got
         found-is =
-            s v.got before
-            ∙ ap (λ (b : List ℕ). exact && has_key b v.got) (key-is old new (encode v.got) w.key (encode w.tree) at p c q new_is v.used w.ends w.grows fits)
+            s v.got (before-is bytes _ (encode v.got) w.key (encode w.tree) old.used p c (used_appended new_is) front-long v.appends.used w.ends)
+            ∙ ap (λ (b : List ℕ). exact && has_key b v.got) (key-is bytes _ (encode v.got) w.key (encode w.tree) old.used p c (used_appended new_is) front-long v.appends.used w.ends)
 
-        pub map-twice : found ≡ true → (n : ℕ) → n ≡ l.number → Ran answer ls first exact old new at (Refused (KeyTwice n)) p
+        pub map-twice : found ≡ true → (n : ℕ) → n ≡ l.number → Ran answer ls first exact old new (Err (KeyTwice n))
         unfolding ◌>>=◌ ◌>>◌ fresh ensure
         map-twice t n m =
             record {
               got = v.got;
               told = refused 18 n 0;
               judged = judged-as on-turn (rw (and_right exact (has_key w.key v.got) (sym found-is ∙ t), m));
-              agrees = record { is = refl; kept = ap (take at) new_is ∙ kept-before at old at (encode v.got ++ (item 3 w.key ++ encode w.tree)) (omega arith) };
-              lies = lies-between new at p v.got (omega (arith, v.used)) (omega (arith, v.room, new-long)) before;
+              agrees = record { is = refl; keeps = keeps_appended new_is };
             }
 
-        pub map_on : found ≡ false → Mapped ls first indent levels exact old at new j q
+        pub map_on : found ≡ false → Mapped ls first indent levels exact old new j
         map_on t =
             record {
               got = add v.got w.key w.tree;
               turns = v.turns - 1;
               enough = omega (arith, v.enough, length-drop i ls, length-drop j ls, w.on, ap length e);
               judged = judged-add cap l.number w.key w.tree _ on-turn λ x. ap (λ (b : Bool). b && has_key w.key v.got) (sym x) ∙ sym found-is ∙ t;
-              bytes = new_is ∙ ap (sets old at) (sym (add-bytes v.got w.key w.tree));
-              used = rw (add-bytes v.got w.key w.tree, length-append, length-append, item-length 3 w.key) (omega (arith, v.used, w.ends, w.grows));
-              kept = new-long;
-              room = fits;
+              appends = rw (add-bytes v.got w.key w.tree) new_is;
               on = omega (arith, v.on, w.on);
               within' = w.within;
             }
 
 -- ---- the items of a sequence
 
-pub record Listed (ls : List Line) (first indent levels : ℕ) (old : List ℕ) (at : ℕ) (out : List ℕ) (i p : ℕ) : Type 0 where
+-- the items so far, from whose end the definition goes on as from the start; `turns` are left
+pub record Listed (ls : List Line) (first indent levels : ℕ) (old now : Writer) (i : ℕ) : Type 0 where
   pub got : Items
   pub turns : ℕ
   pub enough : length (drop i ls) ≤ turns
-  pub same : items_of (length old) (within (length old) levels) indent (at + 6) (drop first ls) ≡ seq_lines (length old) (within (length old) levels) indent turns got p (drop i ls)
-  pub bytes : out ≡ sets old (at + 6) (encode got)
-  pub used : p ≡ at + 6 + length (encode got)
-  pub kept : length out ≡ length old
-  pub room : p ≤ length old
+  pub same : items_of (cap_of old) (within (cap_of old) levels) indent old.used (drop first ls) ≡ seq_lines (cap_of old) (within (cap_of old) levels) indent turns got now.used (drop i ls)
+  pub appends : Appends old now (encode got)
   pub on : first ≤ i
   pub within' : i ≤ length ls
 
-pub listed_start : (ls : List Line) (first indent levels : ℕ) (old : List ℕ) (at : ℕ) → at + 6 ≤ length old → first ≤ length ls → Listed ls first indent levels old at old first (at + 6)
+pub listed_start : (ls : List Line) (first indent levels : ℕ) (old : Writer) → first ≤ length ls → Listed ls first indent levels old old first
 unfolding items_of encode
-listed_start ls first indent levels old at r h =
-    record { got = end; turns = length (drop first ls); enough = omega arith; same = refl; bytes = refl; used = omega arith; kept = refl; room = r; on = omega arith; within' = h }
+listed_start ls first indent levels old h =
+    record { got = end; turns = length (drop first ls); enough = omega arith; same = refl; appends = appends_none old; on = omega arith; within' = h }
 
-pub list_full : (old : List ℕ) (inside : Inside) (indent at : ℕ) (rest : List Line) → length old < at + 6 → Refuses (block_seq (length old) inside indent at rest) old old at WorkTooShort
+pub list_full : (old new : Writer) (inside : Inside) (indent : ℕ) (rest : List Line) → room_of old < 6 → new ≡ old → Refuses (block_seq (cap_of old) inside indent old.used rest) old new WorkTooShort
 unfolding block_seq ◌>>=◌
-list_full old inside indent at rest h = record { is = rw (uncharged (length old) at h); kept = refl }
+list_full old new inside indent rest h e = record { is = rw (uncharged (cap_of old) old.used (omega arith)); keeps = keeps_same e }
 
-module _ (ls : List Line) (first indent levels : ℕ) (old : List ℕ) (at : ℕ) (out : List ℕ) (i p : ℕ) (v : Listed ls first indent levels old at out i p) (room : at + 6 ≤ length old) where
+module _ (ls : List Line) (first indent levels : ℕ) (a old : Writer) (header : ℕ) (begun : Begins a old header) (out : Writer) (i : ℕ) (v : Listed ls first indent levels old out i) where
   abbrev scap : ℕ
-  scap = length old
+  scap = cap_of old
 
   abbrev sinside : Inside
   sinside = within scap levels
 
+  abbrev sp : ℕ
+  sp = out.used
+
   abbrev listed : Read Yaml
-  listed = block_seq scap sinside indent at (drop first ls)
+  listed = block_seq (cap_of a) (within (cap_of a) levels) indent a.used (drop first ls)
 
-  listed-is : listed ≡ (seq_lines scap sinside indent v.turns v.got p (drop i ls) >>= λ x. good (seq x.0, x.1, x.2))
+  pub sout-long : cap_of out ≡ scap
+  sout-long = len_appended v.appends
+
+  listed-is : listed ≡ (seq_lines scap sinside indent v.turns v.got sp (drop i ls) >>= λ x. good (seq x.0, x.1, x.2))
   unfolding block_seq ◌>>=◌
-  listed-is = rw (charged scap at room, v.same)
+  listed-is = rw (← v.same, charged (cap_of a) a.used (omega (arith, old.within, begun.used, ap length begun.out)), begun.used, begun.out)
 
-  ends : (turns : ℕ) (rest : List Line) → dash_here indent rest ≡ false → seq_lines scap sinside indent turns v.got p rest ≡ good (v.got, p, rest)
+  ends : (turns : ℕ) (rest : List Line) → dash_here indent rest ≡ false → seq_lines scap sinside indent turns v.got sp rest ≡ good (v.got, sp, rest)
   unfolding seq_lines seq_turn dash_here
   ends zero rest k = refl
   ends (suc t) [] k = refl
   ends (suc t) (l ∷ rest) k = rw k
 
-  pub list_close : dash_here indent (drop i ls) ≡ false → (new : List ℕ) → new ≡ sets out at (head 4 (p - at - 6)) → WroteBlock listed ls first old new at i p
+  pub list_close : dash_here indent (drop i ls) ≡ false → (new : Writer) → Fills out new header (head 4 (sp - (header + 6))) → WroteBlock listed ls first a new i
   unfolding ◌>>=◌ encode
-  list_close k new w =
+  list_close k new f =
       record {
         tree = seq v.got;
-        is = listed-is ∙ rw (ends v.turns (drop i ls) k);
-        bytes = headed 4 old out new (encode v.got) at p v.bytes v.used w;
-        grows = omega (arith, v.used, item-length 4 (encode v.got));
-        fits = v.room;
+        is = listed-is ∙ rw (ends v.turns (drop i ls) k, f.used);
+        appends = filled 4 begun v.appends f;
         on = v.on;
         within = v.within';
       }
 
   module _ (l : Line) (rest : List Line) (e : drop i ls ≡ l ∷ rest) (k : dash_here indent (drop i ls) ≡ true) where
     abbrev one : Read Yaml
-    one = item_behind scap sinside l p (trim_start (drop 1 l.text)) rest
+    one = item_behind scap sinside l sp (trim_start (drop 1 l.text)) rest
 
-    sturn : (turns : ℕ) → length (drop i ls) ≤ turns → seq_lines scap sinside indent turns v.got p (drop i ls)
+    sturn : (turns : ℕ) → length (drop i ls) ≤ turns → seq_lines scap sinside indent turns v.got sp (drop i ls)
         ≡ (one >>= λ x. seq_lines scap sinside indent (turns - 1) (v.got ◂ x.0) x.1 x.2)
     unfolding seq_lines seq_turn dash_here
     sturn zero h = absurd (omega (arith, ap length e))
@@ -252,140 +258,136 @@ module _ (ls : List Line) (first indent levels : ℕ) (old : List ℕ) (at : ℕ
         let m : dash_here indent (l ∷ rest) ≡ true = ap (dash_here indent) (sym e) ∙ k in
         rw (e, m, n)
 
-    pub list-stops : {new : List ℕ} (z : Refusal) → Refuses one out new p z → Refuses listed old new at z
+    pub list-stops : (new : Writer) (z : Refusal) → Refuses one out new z → Refuses listed a new z
     unfolding ◌>>=◌
-    list-stops {new} z r =
+    list-stops new z r =
         record {
           is = listed-is ∙ rw (sturn v.turns v.enough, r.is);
-          kept = kept_less at p out new (omega (arith, v.used)) r.kept ∙ ap (take at) v.bytes ∙ kept-before at old (at + 6) (encode v.got) (omega arith);
+          keeps = keeps_more (keeps_begun begun) (keeps_more (keeps_appended v.appends) r.keeps);
         }
 
-    pub list_on : (new : List ℕ) (j q : ℕ) → WroteBlock one ls (i + 1) out new p j q → Listed ls first indent levels old at new j q
+    pub list_on : (new : Writer) (j : ℕ) → WroteBlock one ls (i + 1) out new j → Listed ls first indent levels old new j
     unfolding ◌>>=◌
-    list_on new j q w =
+    list_on new j w =
         record {
           got = v.got ◂ w.tree;
           turns = v.turns - 1;
           enough = omega (arith, v.enough, length-drop i ls, length-drop j ls, w.on, ap length e);
           same = v.same ∙ sturn v.turns v.enough ∙ rw w.is;
-          bytes = w.bytes ∙ ap (λ (b : List ℕ). sets b p (encode w.tree)) v.bytes
-              ∙ ap (λ (m : ℕ). sets (sets old (at + 6) (encode v.got)) m (encode w.tree)) v.used
-              ∙ sets-append (encode v.got) (encode w.tree) old (at + 6) ∙ ap (sets old (at + 6)) (sym (snoc-bytes v.got w.tree));
-          used = rw (snoc-bytes v.got w.tree, length-append) (omega (arith, v.used, w.grows));
-          kept = ap length w.bytes ∙ length-sets out p (encode w.tree) ∙ v.kept;
-          room = omega (arith, w.fits, v.kept);
+          appends = rw (snoc-bytes v.got w.tree) (appends_more v.appends w.appends);
           on = omega (arith, v.on, w.on);
           within' = w.within;
         }
 
 -- ---- mappings
 
-pub map-full : (old : List ℕ) (inside : Inside) (indent at : ℕ) (rest : List Line) → length old < at + 6 → Refuses (block_map (length old) inside indent at rest) old old at WorkTooShort
+pub map-full : (old new : Writer) (inside : Inside) (indent : ℕ) (rest : List Line) → room_of old < 6 → new ≡ old → Refuses (block_map (cap_of old) inside indent old.used rest) old new WorkTooShort
 unfolding block_map ◌>>=◌
-map-full old inside indent at rest h = record { is = rw (uncharged (length old) at h); kept = refl }
+map-full old new inside indent rest h e = record { is = rw (uncharged (cap_of old) old.used (omega arith)); keeps = keeps_same e }
 
-module _ (cap : ℕ) (inside : Inside) (indent at : ℕ) (rest : List Line) (room : at + 6 ≤ cap) where
-  pub map-refused : {old new : List ℕ} (z : Refusal) → Refuses (entries_of cap inside indent (at + 6) rest) old new (at + 6) z → Refuses (block_map cap inside indent at rest) old new at z
+module _ (a b : Writer) (header : ℕ) (begun : Begins a b header) (levels indent : ℕ) (rest : List Line) where
+  abbrev mapped : Read Yaml
+  mapped = block_map (cap_of a) (within (cap_of a) levels) indent a.used rest
+
+  abbrev entries : Read Entries
+  entries = entries_of (cap_of b) (within (cap_of b) levels) indent b.used rest
+
+  mapped-is : mapped ≡ (entries >>= λ x. good (dict x.0, x.1, x.2))
   unfolding block_map ◌>>=◌
-  map-refused {old} {new} z r = record { is = rw (charged cap at room, r.is); kept = kept_less at (at + 6) old new (omega arith) r.kept }
+  mapped-is = rw (charged (cap_of a) a.used (omega (arith, b.within, begun.used, ap length begun.out)), begun.used, begun.out)
 
-  pub map-close : (ls : List Line) (i : ℕ) (old out new : List ℕ) (j q : ℕ) → WroteBlock (entries_of cap inside indent (at + 6) rest) ls i old out (at + 6) j q
-      → new ≡ sets out at (head 5 (q - at - 6)) → WroteBlock (block_map cap inside indent at rest) ls i old new at j q
-  unfolding block_map ◌>>=◌ encode
-  map-close ls i old out new j q w n =
+  pub map-refused : (new : Writer) (z : Refusal) → Refuses entries b new z → Refuses mapped a new z
+  unfolding ◌>>=◌
+  map-refused new z r = record { is = mapped-is ∙ rw r.is; keeps = keeps_more (keeps_begun begun) r.keeps }
+
+  pub map-close : (ls : List Line) (i : ℕ) (out new : Writer) (j : ℕ) → WroteBlock entries ls i b out j → Fills out new header (head 5 (out.used - (header + 6))) → WroteBlock mapped ls i a new j
+  unfolding ◌>>=◌ encode
+  map-close ls i out new j w f =
       record {
         tree = dict w.tree;
-        is = rw (charged cap at room, w.is);
-        bytes = headed 5 old out new (encode w.tree) at q w.bytes w.grows n;
-        grows = omega (arith, w.grows, item-length 5 (encode w.tree));
-        fits = w.fits;
+        is = mapped-is ∙ rw (w.is, f.used);
+        appends = filled 5 begun w.appends f;
         on = w.on;
         within = w.within;
       }
 
 -- ---- a mapping behind a dash
 
-pub inline-full : (old : List ℕ) (inside : Inside) (n indent : ℕ) (t : List ℕ) (split at : ℕ) (rest : List Line) → length old < at + 6
-    → Refuses (inline_map (length old) inside n indent t split at rest) old old at WorkTooShort
+pub inline-full : (old new : Writer) (inside : Inside) (n indent : ℕ) (t : List ℕ) (split : ℕ) (rest : List Line) → room_of old < 6 → new ≡ old
+    → Refuses (inline_map (cap_of old) inside n indent t split old.used rest) old new WorkTooShort
 unfolding inline_map ◌>>=◌
-inline-full old inside n indent t split at rest h = record { is = rw (uncharged (length old) at h); kept = refl }
+inline-full old new inside n indent t split rest h e = record { is = rw (uncharged (cap_of old) old.used (omega arith)); keeps = keeps_same e }
 
-module _ (inside : Inside) (n indent : ℕ) (t : List ℕ) (split at : ℕ) (rest : List Line) (old : List ℕ) (room : at + 6 ≤ length old) where
+module _ (a b : Writer) (header : ℕ) (begun : Begins a b header) (levels n indent : ℕ) (t : List ℕ) (split : ℕ) (rest : List Line) where
   abbrev icap : ℕ
-  icap = length old
+  icap = cap_of b
+
+  abbrev iinside : Inside
+  iinside = within icap levels
 
   abbrev inlined : Read Yaml
-  inlined = inline_map icap inside n indent t split at rest
+  inlined = inline_map (cap_of a) (within (cap_of a) levels) n indent t split a.used rest
 
-  pub inline-stops : {new : List ℕ} (z : Refusal) → Refuses (entry_at icap inside n indent t split (at + 6) rest) old new (at + 6) z → Refuses inlined old new at z
+  abbrev ientry : Read (List ℕ × Yaml)
+  ientry = entry_at icap iinside n indent t split b.used rest
+
+  inlined-is : inlined ≡ (ientry >>= λ x. entries_of icap iinside indent x.1 x.2 >>= λ y. fresh icap n x.0.0 y.0 >> good (dict (pair x.0.0 x.0.1 y.0), y.1, y.2))
   unfolding inline_map ◌>>=◌
-  inline-stops {new} z r = record { is = rw (charged icap at room, r.is); kept = kept_less at (at + 6) old new (omega arith) r.kept }
+  inlined-is = rw (charged (cap_of a) a.used (omega (arith, b.within, begun.used, ap length begun.out)), begun.used, begun.out)
 
-  module _ (ls : List Line) (i : ℕ) (mid : List ℕ) (j c q : ℕ) (w : WroteEntry (entry_at icap inside n indent t split (at + 6) rest) ls i old mid (at + 6) j c q) where
-    pub inline-later : {new : List ℕ} (z : Refusal) → Refuses (entries_of icap inside indent q (drop j ls)) mid new q z → Refuses inlined old new at z
-    unfolding inline_map ◌>>=◌
-    inline-later {new} z r =
+  pub inline-stops : (new : Writer) (z : Refusal) → Refuses ientry b new z → Refuses inlined a new z
+  unfolding ◌>>=◌
+  inline-stops new z r = record { is = inlined-is ∙ rw r.is; keeps = keeps_more (keeps_begun begun) r.keeps }
+
+  module _ (ls : List Line) (i : ℕ) (mid : Writer) (j c : ℕ) (w : WroteEntry ientry ls i b mid j c) where
+    abbrev later : Read Entries
+    later = entries_of icap iinside indent mid.used (drop j ls)
+
+    pub inline-later : (new : Writer) (z : Refusal) → Refuses later mid new z → Refuses inlined a new z
+    unfolding ◌>>=◌
+    inline-later new z r =
         record {
-          is = rw (charged icap at room, w.is, r.is);
-          kept = kept_less at q mid new (omega (arith, w.ends, w.grows)) r.kept ∙ ap (take at) w.bytes' ∙ kept-before at old (at + 6) (item 3 w.key ++ encode w.tree) (omega arith);
+          is = inlined-is ∙ rw (w.is, r.is);
+          keeps = keeps_more (keeps_begun begun) (keeps_more (keeps_appended w.appends) r.keeps);
         }
 
-    module _ (out : List ℕ) (m u : ℕ) (d : WroteBlock (entries_of icap inside indent q (drop j ls)) ls j mid out q m u) where
-      behind-is : out ≡ sets old (at + 6) (item 3 w.key ++ (encode w.tree ++ encode d.tree))
-      behind-is =
-          d.bytes ∙ ap (λ (b : List ℕ). sets b q (encode d.tree)) w.bytes'
-          ∙ ap (λ (x : ℕ). sets (sets old (at + 6) (item 3 w.key ++ encode w.tree)) x (encode d.tree)) q-is
-          ∙ sets-append (item 3 w.key ++ encode w.tree) (encode d.tree) old (at + 6)
-          ∙ ap (sets old (at + 6)) (append_assoc (item 3 w.key) (encode w.tree) (encode d.tree))
-        where
-          q-is : q ≡ at + 6 + length (item 3 w.key ++ encode w.tree)
-          q-is = rw (length-append, item-length 3 w.key) (omega (arith, w.ends, w.grows))
+    module _ (out : Writer) (m : ℕ) (d : WroteBlock later ls j mid out m) where
+      abbrev ibytes : List ℕ
+      ibytes = take out.used out.out.now
 
-      u-is : u ≡ c + length (encode w.tree ++ encode d.tree)
-      u-is = rw length-append (omega (arith, w.grows, d.grows))
-
-      mid-long : length mid ≡ length old
-      mid-long = ap length w.bytes' ∙ length-sets old (at + 6) (item 3 w.key ++ encode w.tree)
-
-      whole : u ≤ length old
-      whole = omega (arith, d.fits, mid-long)
+      behind-is : Appends b out (item 3 w.key ++ (encode w.tree ++ encode d.tree))
+      behind-is = subst (Appends b out) (append_assoc (item 3 w.key) (encode w.tree) (encode d.tree)) (appends_more w.appends d.appends)
 
       -- the later entries, and the first key, as the search for it finds them
-      module _ (found : Bool) (s : (es : Entries) → take (u - q) (drop q out) ≡ encode es → found ≡ has_key (take (c - (at + 12)) (drop (at + 12) out)) es) where
-        later-is : take (u - q) (drop q out) ≡ encode d.tree
+      module _ (found : Bool) (s : (es : Entries) → take (out.used - mid.used) (drop mid.used ibytes) ≡ encode es → found ≡ has_key (take (c - (header + 12)) (drop (header + 12) ibytes)) es) where
+        later-is : take (out.used - mid.used) (drop mid.used ibytes) ≡ encode d.tree
         later-is =
-            ap (λ (b : List ℕ). take (u - q) (drop q b)) d.bytes
-            ∙ ap (take (u - q)) (stored-front mid (encode d.tree) q (omega (arith, d.grows, d.fits)))
-            ∙ take_at (encode d.tree) _ (u - q) (omega (arith, d.grows))
+            ap (take (out.used - mid.used)) (ap (drop mid.used) (used_appended d.appends) ∙ drop_at (take mid.used mid.out.now) (encode d.tree) mid.used (length-take-le mid.used mid.out.now mid.within))
+            ∙ take_all (out.used - mid.used) (encode d.tree) (omega (arith, d.appends.used))
 
-        first-is : take (c - (at + 12)) (drop (at + 12) out) ≡ w.key
+        first-is : take (c - (header + 12)) (drop (header + 12) ibytes) ≡ w.key
         first-is =
-            let z : at + 12 ≡ at + 6 + 6 = omega arith in
-            rw z (key-is old out [] w.key (encode w.tree ++ encode d.tree) (at + 6) (at + 6) c u behind-is (omega arith) w.ends u-is whole)
+            let z : header + 12 ≡ b.used + 6 = omega (arith, begun.at, begun.used) in
+            rw z (key-is ibytes _ [] w.key (encode w.tree ++ encode d.tree) b.used b.used c (used_appended behind-is) (length-take-le b.used b.out.now b.within) (omega arith) w.ends)
 
         found_first : found ≡ has_key w.key d.tree
-        found_first = s d.tree later-is ∙ ap (λ (b : List ℕ). has_key b d.tree) first-is
+        found_first = s d.tree later-is ∙ ap (λ (k : List ℕ). has_key k d.tree) first-is
 
-        pub inline-twice : found ≡ true → (m : ℕ) → m ≡ n → Refuses inlined old out at (KeyTwice m)
-        unfolding inline_map ◌>>=◌ ◌>>◌ fresh ensure
-        inline-twice f m e =
+        pub inline-twice : found ≡ true → (k : ℕ) → k ≡ n → Refuses inlined a out (KeyTwice k)
+        unfolding ◌>>=◌ ◌>>◌ fresh ensure
+        inline-twice f k e =
             record {
-              is = rw (charged icap at room, w.is, d.is, sym found_first ∙ f, e);
-              kept = ap (take at) behind-is ∙ kept-before at old (at + 6) (item 3 w.key ++ (encode w.tree ++ encode d.tree)) (omega arith);
+              is = inlined-is ∙ rw (w.is, d.is, sym found_first ∙ f, e);
+              keeps = keeps_more (keeps_begun begun) (keeps_appended behind-is);
             }
 
-        pub inline-close : found ≡ false → i ≤ j → (new : List ℕ) → new ≡ sets out at (head 5 (u - at - 6)) → WroteBlock inlined ls i old new at m u
-        unfolding inline_map ◌>>=◌ ◌>>◌ fresh ensure encode
+        pub inline-close : found ≡ false → i ≤ j → (new : Writer) → Fills out new header (head 5 (out.used - (header + 6))) → WroteBlock inlined ls i a new m
+        unfolding ◌>>=◌ ◌>>◌ fresh ensure encode
         inline-close f o new h =
             record {
               tree = dict (pair w.key w.tree d.tree);
-              is = rw (charged icap at room, w.is, d.is, sym found_first ∙ f);
-              bytes = headed 5 old out new (encode (pair w.key w.tree d.tree)) at u behind-is (omega (arith, all)) h;
-              grows = omega (arith, all, item-length 5 (encode (pair w.key w.tree d.tree)));
-              fits = whole;
+              is = inlined-is ∙ rw (w.is, d.is, sym found_first ∙ f, h.used);
+              appends = filled 5 begun behind-is h;
               on = omega (arith, o, d.on);
               within = d.within;
             }
-          where
-            all : u ≡ at + 6 + length (encode (pair w.key w.tree d.tree))
-            all = rw (length-append, item-length 3 w.key) (omega (arith, u-is, w.ends))

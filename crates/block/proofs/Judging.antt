@@ -1,21 +1,22 @@
 -- Entries whose keys are judged once, behind the last of them. Assumes nothing.
-use mathlib.Core.Path.{◌≡◌, refl, sym, ap, ◌∙◌}
+use mathlib.Core.Path.{◌≡◌, refl, sym, ◌∙◌}
 use Prim.Native.Nat.{ℕ}
 use native.Mathlib.Omega.{arith}
 use mathlib.Core.List.{List}
 use mathlib.Core.Bool.{Bool, true, false, ◌||◌, false≢true}
-use lib.ListN.{take}
 use Rattle.refusal.specs.Base.{◌>>=◌, ◌>>◌, ensure}
 use Rattle.refusal.proofs.Tools.{refused≢good}
 use Rattle.item.specs.Tree.{Yaml, Entries, done, add, has_key}
-use Rattle.item.specs.Encode.{encode}
+use Rattle.writer.specs.declared.Writer.{Writer}
+use Rattle.writer.specs.Writing.{Keeps, CutsBack}
+use Rattle.writer.proofs.Laws.{keeps_appended, keeps_more, keeps_cut}
 use Rattle.entries.specs.Entries.{key_twice}
 use Rattle.lines.specs.Lines.{Line}
 use Rattle.flow.specs.Flow.{fresh}
-use Rattle.flow.proofs.Invariants.{kept-before, twice-add}
+use Rattle.flow.proofs.Invariants.{twice-add}
 use Rattle.literal.specs.Literal.{Read}
-use Rattle.literal.specs.declared.BlockRead.{BlockRead}
-use Rattle.literal.specs.declared.BlockRead.TheVariants.{Done, Refused}
+use Rattle.refusal.specs.declared.Refusal.{Refusal}
+use Rattle.std.specs.Prelude.{Result, Ok, Err}
 use Rattle.literal.specs.Contract.{AgreesBlock}
 use Rattle.block.specs.Contract.{Twice, Judged, Ran}
 use Rattle.block.proofs.Cases.{agrees-block}
@@ -50,15 +51,18 @@ judged-add {a} {exact} {got} cap n k v more j new =
 
 -- ---- a run, and the next one that compares each key
 
-agrees-keeps : (x : Read Entries) (ls : List Line) (i : ℕ) (old new : List ℕ) (at : ℕ) (r : BlockRead) → AgreesBlock x ls i old new at r → take at new ≡ take at old
-agrees-keeps x ls i old new at (Done n u) w = ap (take at) w.bytes ∙ kept-before at old at (encode w.tree) (omega arith)
-agrees-keeps x ls i old new at (Refused z) w = w.kept
+agrees-keeps : (x : Read Entries) (ls : List Line) (i : ℕ) (old new : Writer) (r : Result ℕ Refusal) → AgreesBlock x ls i old new r → Keeps old new
+agrees-keeps x ls i old new (Ok n) w = keeps_appended w.appends
+agrees-keeps x ls i old new (Err z) w = w.keeps
 
-module _ {a : Read Entries} {ls : List Line} {i : ℕ} {old mid : List ℕ} {at : ℕ} {r : BlockRead} {u : ℕ} (w : Ran a ls i false old mid at r u) where
-  pub ran-once : key_twice w.got ≡ false → AgreesBlock a ls i old mid at r
-  ran-once e = agrees-block a w.told ls i i old mid at r (w.judged.single e) (omega arith) w.agrees
+module _ {a : Read Entries} {ls : List Line} {i : ℕ} {old mid : Writer} {r : Result ℕ Refusal} (w : Ran a ls i false old mid r) where
+  pub ran-keeps : Keeps old mid
+  ran-keeps = agrees-keeps w.told ls i old mid r w.agrees
 
-  pub ran-again : key_twice w.got ≡ true → {b : Read Entries} (new : List ℕ) (s : BlockRead) {v : ℕ} → a ≡ b → Ran b ls i true mid new at s v → AgreesBlock a ls i old new at s
-  ran-again t new (Done n m) e x = let y = w.judged.twice t in refused≢good _ 18 y.line 0 (sym y.is ∙ e ∙ x.judged.single (x.judged.sure refl) ∙ x.agrees.is)
-  ran-again t new (Refused z) e x =
-      record { is = e ∙ x.judged.single (x.judged.sure refl) ∙ x.agrees.is; kept = x.agrees.kept ∙ agrees-keeps w.told ls i old mid at r w.agrees }
+  pub ran-once : key_twice w.got ≡ false → AgreesBlock a ls i old mid r
+  ran-once e = agrees-block a w.told ls i i old mid r (w.judged.single e) (omega arith) w.agrees
+
+  pub ran-again : key_twice w.got ≡ true → {b : Read Entries} (cut new : Writer) (s : Result ℕ Refusal) → a ≡ b → CutsBack mid cut old.used → Ran b ls i true cut new s → AgreesBlock a ls i old new s
+  ran-again t cut new (Ok n) e k x = let y = w.judged.twice t in refused≢good _ 18 y.line 0 (sym y.is ∙ e ∙ x.judged.single (x.judged.sure refl) ∙ x.agrees.is)
+  ran-again t cut new (Err z) e k x =
+      record { is = e ∙ x.judged.single (x.judged.sure refl) ∙ x.agrees.is; keeps = keeps_more (keeps_cut ran-keeps k) x.agrees.keeps }

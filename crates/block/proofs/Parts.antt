@@ -1,44 +1,43 @@
 -- What the small readers of blocks come to, by the places of the code. Assumes nothing.
-use mathlib.Core.Path.{◌≡◌, refl, sym, ap, ◌∙◌, subst}
-use Prim.Native.Nat.{ℕ, suc, ◌+◌, ◌-◌, ◌≤◌, ◌<◌}
+use mathlib.Core.Path.{◌≡◌, refl, sym, ap, ◌∙◌}
+use Prim.Native.Nat.{ℕ, suc, ◌+◌, ◌≤◌, ◌<◌}
 use native.Mathlib.Omega.{arith}
 use mathlib.Core.List.{List, [], ◌∷◌}
 use mathlib.Core.Bool.{Bool, true, false}
 use mathlib.Core.Option.{Option, none, some}
-use lib.ListN.{length, take, drop, get_or}
-use lib.Seq.{sets}
+use lib.ListN.{length, drop}
 use borrow.Author.Tests.{eq-eqb, ne_eqb, le-leb, lt-leb}
-use Rattle.refusal.specs.Base.{Answer, ◌>>=◌, ◌>>◌, ensure, given, maybe, ch, bytes, same, empty}
+use Rattle.refusal.specs.Base.{Answer, ◌>>=◌, ◌>>◌, ensure, given, maybe, bytes, empty}
 use Rattle.refusal.proofs.Tools.{chosen, present}
 use Rattle.refusal.specs.declared.Refusal.{Refusal}
 use Rattle.refusal.specs.declared.Refusal.TheVariants.{EmptyKey, ComplexKey, KeyNotScalar, WorkTooShort}
 use Rattle.utf8.specs.Part.{part}
 use Rattle.utf8.specs.White.{leading, trim_start}
-use Rattle.utf8.proofs.Laws.{part-drop, part_length, start-part, start-le}
+use Rattle.utf8.proofs.Laws.{part-drop, start-part, start-le}
+use Rattle.item.proofs.Same.{same_length}
 use Rattle.item.specs.Tree.{Yaml, null}
 use Rattle.item.specs.Encode.{encode}
-use Rattle.item.proofs.Size.{item-length, encode-size}
+use Rattle.item.proofs.Size.{encode-size}
+use Rattle.writer.specs.declared.Writer.{Writer}
+use Rattle.writer.specs.Writing.{cap_of, room_of, Appends}
+use Rattle.writer.proofs.Laws.{len_appended, keeps_appended, keeps_same}
 use Rattle.lines.specs.Lines.{Line}
-use Rattle.lines.specs.Table.{line_at, table_lines, indent_at}
+use Rattle.lines.specs.Table.{line_at}
 use Rattle.lines.specs.Dash.{dashed, is_dash}
-use Rattle.lines.proofs.Rows.{rows_end, rows_next}
-use Rattle.scalar.specs.declared.Role.{Role}
+use Rattle.lines.proofs.Rows.{lines_end, lines_next}
 use Rattle.scalar.specs.declared.Role.TheVariants.{AsValue, AsKey}
 use Rattle.item.specs.declared.Found.TheVariants.{At, Nothing as NotFound}
 use Rattle.scalar.specs.Key.{quote_after, depth_after, qualifies, key_end_from, key_end}
 use Rattle.scalar.specs.Read.{cost, charge}
 use Rattle.scalar.specs.Contract.{written, Refuses}
 use Rattle.scalar.specs.Code.{found_of}
-use Rattle.flow.specs.declared.Whole.{Whole}
-use Rattle.flow.specs.declared.Whole.TheVariants.{Read, Refused}
 use Rattle.flow.specs.Flow.{flow}
-use Rattle.flow.specs.Contract.{WroteWhole, AgreesWhole}
-use Rattle.flow.proofs.Invariants.{kept-before}
+use Rattle.flow.specs.Contract.{WroteWhole}
 use Rattle.flow.proofs.Values.{Named, named, unnamed}
 use Rattle.literal.specs.Literal.{leaf}
 use Rattle.literal.specs.Contract.{WroteBlock}
 use Rattle.block.specs.declared.Opening.TheVariants.{Dash, Key, Flow}
-use Rattle.block.specs.declared.Behind.TheVariants.{Nothing, Literal, Stripped, Value}
+use Rattle.block.specs.declared.Behind.TheVariants.{Value}
 use Rattle.block.specs.Block.{key_at, starts_complex, line_value, block_key}
 use Rattle.block.specs.Contract.{opening_of, behind_of, key_here, dash_here, WroteKey}
 
@@ -84,10 +83,6 @@ module _ (text : List ℕ) (start end from : ℕ) (h : start < end) (k : end ≤
       ∙ sym (start-part text (start + 1) end (omega arith) k)
       ∙ ap trim_start (sym (part-drop text start end 1))
 
-  pub trim-start-passed : length (part text start end) - length (part text from end) ≡ from - start
-  trim-start-passed =
-      omega (arith, dash-from-le, part_length text start end (omega arith) k, part_length text from end dash-from-le k)
-
 -- ---- how a line begins
 
 module _ (t : List ℕ) where
@@ -110,27 +105,7 @@ module _ (t : List ℕ) where
       λ _ p. present (key_end t) Flow Key p (λ _ q. absurd (let z : ◌≡◌ {A = ℕ} 0 1 = cc in omega arith))
       λ n f q. let z : n ≡ k = cc in f ∙ ap some z
 
-pub complex-question : (t : List ℕ) → 0 < length t → get_or t 0 0 ≡ ch "?" → true ≡ starts_complex t
-unfolding starts_complex
-complex-question [] h e = absurd (omega arith)
-complex-question (b ∷ t) h e = rw (eq-eqb b (ch "?") e)
-
-pub complex-anchor : (t : List ℕ) → 0 < length t → get_or t 0 0 ≡ ch "&" → true ≡ starts_complex t
-unfolding starts_complex
-complex-anchor [] h e = absurd (omega arith)
-complex-anchor (b ∷ t) h e = let z : b ≡ ch "&" = e in rw z
-
-pub complex-alias : (t : List ℕ) → 0 < length t → get_or t 0 0 ≡ ch "*" → true ≡ starts_complex t
-unfolding starts_complex
-complex-alias [] h e = absurd (omega arith)
-complex-alias (b ∷ t) h e = let z : b ≡ ch "*" = e in rw z
-
-pub complex-not : (t : List ℕ) → 0 < length t → (get_or t 0 0 ≡ ch "?" → ⊥) → (get_or t 0 0 ≡ ch "&" → ⊥) → (get_or t 0 0 ≡ ch "*" → ⊥) → false ≡ starts_complex t
-unfolding starts_complex
-complex-not [] h n m k = absurd (omega arith)
-complex-not (b ∷ t) h n m k = rw (ne_eqb b (ch "?") n, ne_eqb b (ch "&") m, ne_eqb b (ch "*") k)
-
--- ---- what stands behind a colon
+-- ---- texts
 
 pub is-empty : (t : List ℕ) → length t ≡ 0 → empty t ≡ true
 unfolding empty
@@ -142,135 +117,99 @@ unfolding empty
 not-empty [] h = absurd (omega arith)
 not-empty (b ∷ t) h = refl
 
-module _ (t : List ℕ) where
-  pub behind-nothing : length t ≡ 0 → Nothing ≡ behind_of t
-  unfolding behind_of
-  behind-nothing e = rw (is-empty t e)
-
-  module _ (h : 0 < length t) where
-    pub behind-literal : same t (bytes "|") ≡ true → Literal ≡ behind_of t
-    unfolding behind_of
-    behind-literal e = rw (not-empty t h, e)
-
-    module _ (e : same t (bytes "|") ≡ false) where
-      pub behind-stripped : same t (bytes "|-") ≡ true → Stripped ≡ behind_of t
-      unfolding behind_of
-      behind-stripped f = rw (not-empty t h, e, f)
-
-      pub behind-value : same t (bytes "|-") ≡ false → Value ≡ behind_of t
-      unfolding behind_of
-      behind-value f = rw (not-empty t h, e, f)
+-- a text that is longer than the words behind a colon
+pub behind_long : (t : List ℕ) → 3 ≤ length t → Value ≡ behind_of t
+unfolding behind_of bytes
+behind_long t h = rw (not-empty t (omega arith), same_length t (bytes "|") (λ e. omega arith), same_length t (bytes "|-") (λ e. omega arith))
 
 -- ---- null
 
-pub null-full : (old : List ℕ) (at : ℕ) (ls : List Line) → length old < at + 6 → Refuses (leaf (length old) at null ls) old old at WorkTooShort
+pub null-full : (old : Writer) (ls : List Line) → room_of old < 6 → Refuses (leaf (cap_of old) old.used null ls) old old WorkTooShort
 unfolding leaf cost charge ◌>>=◌
-null-full old at ls h = record { is = rw (lt-leb (at + 6) (length old) h); kept = refl }
+null-full old ls h = record { is = rw (lt-leb (old.used + 6) (cap_of old) (omega arith)); keeps = keeps_same refl }
 
-pub null-done : (old new : List ℕ) (at i : ℕ) (ls : List Line) → i ≤ length ls → at + 6 ≤ length old → new ≡ sets old at (encode null)
-    → WroteBlock (leaf (length old) at null (drop i ls)) ls i old new at i (at + 6)
+pub null-done : (old new : Writer) (i : ℕ) (ls : List Line) → i ≤ length ls → Appends old new (encode null) → WroteBlock (leaf (cap_of old) old.used null (drop i ls)) ls i old new i
 unfolding leaf cost charge ◌>>=◌
-null-done old new at i ls h k e = record {
-  tree = null;
-  is = rw (le-leb (at + 6) (length old) k);
-  bytes = e;
-  grows = omega (arith, encode-size null);
-  fits = k;
-  on = omega arith;
-  within = h;
-}
+null-done old new i ls h p =
+    let u : new.used ≡ old.used + 6 = omega (arith, p.used, encode-size null) in
+    record {
+      tree = null;
+      is = rw (le-leb (old.used + 6) (cap_of old) (omega (arith, u, new.within, len_appended p)), u);
+      appends = p;
+      on = omega arith;
+      within = h;
+    }
 
 -- ---- one value of a line
 
-module _ (role : Role) (x : Answer (Yaml × ℕ)) (old new : List ℕ) (at : ℕ) (r : Whole) (w : AgreesWhole role x old new at r) where
-  pub whole_is : (u : ℕ) (key : Bool) → r ≡ Read u key → WroteWhole role x old new at u key
-  whole_is u key e = subst (AgreesWhole role x old new at) e w
-
-  pub stopped-is : (z : Refusal) → r ≡ Refused z → Refuses x old new at z
-  stopped-is z e = subst (AgreesWhole role x old new at) e w
-
-pub line_refused : (t : List ℕ) (n levels : ℕ) (old new : List ℕ) (at : ℕ) (z : Refusal) → Refuses (flow (length old) n levels AsValue at t) old new at z
-    → (ls : List Line) → Refuses (line_value (length old) levels n at t ls) old new at z
+pub line_refused : (t : List ℕ) (n levels : ℕ) (old new : Writer) (z : Refusal) → Refuses (flow (cap_of old) n levels AsValue old.used t) old new z
+    → (ls : List Line) → Refuses (line_value (cap_of old) levels n old.used t ls) old new z
 unfolding line_value ◌>>=◌
-line_refused t n levels old new at z r ls = record { is = rw r.is; kept = r.kept }
+line_refused t n levels old new z r ls = record { is = rw r.is; keeps = r.keeps }
 
-pub line-done : (t : List ℕ) (n levels : ℕ) (old new : List ℕ) (at u : ℕ) (key : Bool) → WroteWhole AsValue (flow (length old) n levels AsValue at t) old new at u key
-    → (i : ℕ) (ls : List Line) → i ≤ length ls → WroteBlock (line_value (length old) levels n at t (drop i ls)) ls i old new at i u
+pub line-done : (t : List ℕ) (n levels : ℕ) (old new : Writer) (key : Bool) → WroteWhole AsValue (flow (cap_of old) n levels AsValue old.used t) old new key
+    → (i : ℕ) (ls : List Line) → i ≤ length ls → WroteBlock (line_value (cap_of old) levels n old.used t (drop i ls)) ls i old new i
 unfolding line_value written ◌>>=◌
-line-done t n levels old new at u key v i ls h = record {
-  tree = v.tree;
-  is = rw v.is;
-  bytes = v.bytes;
-  grows = v.grows;
-  fits = v.fits;
-  on = omega arith;
-  within = h;
-}
+line-done t n levels old new key v i ls h = record { tree = v.tree; is = rw v.is; appends = v.appends; on = omega arith; within = h }
 
 -- ---- a key
 
-module _ (t : List ℕ) (n levels : ℕ) (old : List ℕ) (at : ℕ) where
+module _ (t : List ℕ) (n levels : ℕ) (old : Writer) where
   abbrev read : Answer (List ℕ × ℕ)
-  read = block_key (length old) levels n at t
+  read = block_key (cap_of old) levels n old.used t
 
   abbrev whole : Answer (Yaml × ℕ)
-  whole = flow (length old) n levels AsKey at t
+  whole = flow (cap_of old) n levels AsKey old.used t
 
-  pub key-empty : length t ≡ 0 → Refuses read old old at (EmptyKey n)
+  pub key-empty : length t ≡ 0 → Refuses read old old (EmptyKey n)
   unfolding block_key ensure ◌>>◌ ◌>>=◌
-  key-empty e = record { is = rw (is-empty t e); kept = refl }
+  key-empty e = record { is = rw (is-empty t e); keeps = keeps_same refl }
 
   module _ (h : 0 < length t) where
-    pub key-complex : starts_complex t ≡ true → Refuses read old old at (ComplexKey n)
+    pub key-complex : starts_complex t ≡ true → Refuses read old old (ComplexKey n)
     unfolding block_key ensure ◌>>◌ ◌>>=◌
-    key-complex e = record { is = rw (not-empty t h, e); kept = refl }
+    key-complex e = record { is = rw (not-empty t h, e); keeps = keeps_same refl }
 
     module _ (simple : starts_complex t ≡ false) where
-      pub key-refused : (new : List ℕ) (z : Refusal) → Refuses whole old new at z → Refuses read old new at z
+      pub key-refused : (new : Writer) (z : Refusal) → Refuses whole old new z → Refuses read old new z
       unfolding block_key ensure ◌>>◌ ◌>>=◌
-      key-refused new z r = record { is = rw (not-empty t h, simple, r.is); kept = r.kept }
+      key-refused new z r = record { is = rw (not-empty t h, simple, r.is); keeps = r.keeps }
 
-      module _ (new : List ℕ) (u : ℕ) (key : Bool) (w : WroteWhole AsKey whole old new at u key) where
-        pub key-unnamed : key ≡ false → Refuses read old new at (KeyNotScalar n)
+      module _ (new : Writer) (key : Bool) (w : WroteWhole AsKey whole old new key) where
+        pub key-unnamed : key ≡ false → Refuses read old new (KeyNotScalar n)
         unfolding block_key ensure given ◌>>◌ ◌>>=◌
-        key-unnamed k =
-            record {
-              is = rw (not-empty t h, simple, w.is, unnamed w.tree (sym w.keyed ∙ k));
-              kept = ap (take at) w.bytes ∙ kept-before at old at (written AsKey w.tree) (omega arith);
-            }
+        key-unnamed k = record { is = rw (not-empty t h, simple, w.is, unnamed w.tree (sym w.keyed ∙ k)); keeps = keeps_appended w.appends }
 
-        pub key-done : key ≡ true → WroteKey read old new at u
+        pub key-done : key ≡ true → WroteKey read old new
         unfolding block_key ensure given ◌>>◌ ◌>>=◌
         key-done k =
             let m : Named w.tree = named w.tree (sym w.keyed ∙ k) in
             record {
               key = m.name;
               is = rw (not-empty t h, simple, w.is, m.says);
-              bytes' = w.bytes ∙ ap (sets old at) m.put;
-              grows = omega (arith, w.grows, ap length m.put, item-length 3 m.name);
-              fits = w.fits;
+              appends = rw (← m.put) w.appends;
             }
 
--- ---- the lines of the table
+-- ---- the lines
 
-module _ (text table : List ℕ) (count i indent : ℕ) where
-  pub dash-end : i ≡ count → false ≡ dash_here indent (drop i (table_lines text table count))
+module _ (ls : List Line) (i indent : ℕ) where
+  pub dash-end : i ≡ length ls → false ≡ dash_here indent (drop i ls)
   unfolding dash_here
-  dash-end e = sym (ap (dash_here indent) (rows_end text table count i e))
+  dash-end e = sym (ap (dash_here indent) (lines_end ls i e))
 
-  pub key-end-none : i ≡ count → none ≡ key_here indent (drop i (table_lines text table count))
+  pub key-end-none : i ≡ length ls → none ≡ key_here indent (drop i ls)
   unfolding key_here
-  key-end-none e = sym (ap (key_here indent) (rows_end text table count i e))
+  key-end-none e = sym (ap (key_here indent) (lines_end ls i e))
 
-  module _ (h : i < count) where
-    pub dash-on : is_dash indent (line_at text table i) ≡ dash_here indent (drop i (table_lines text table count))
+  module _ (h : i < length ls) where
+    pub dash-on : is_dash indent (line_at ls i) ≡ dash_here indent (drop i ls)
     unfolding dash_here
-    dash-on = sym (ap (dash_here indent) (rows_next text table count i h))
+    dash-on = sym (ap (dash_here indent) (lines_next ls i h))
 
-    pub key-elsewhere : (indent_at table i ≡ indent → ⊥) → none ≡ key_here indent (drop i (table_lines text table count))
+    pub key-elsewhere : ((line_at ls i).indent ≡ indent → ⊥) → none ≡ key_here indent (drop i ls)
     unfolding key_here key_at
-    key-elsewhere n = sym (ap (key_here indent) (rows_next text table count i h) ∙ rw (ne_eqb (indent_at table i) indent n))
+    key-elsewhere n = sym (ap (key_here indent) (lines_next ls i h) ∙ rw (ne_eqb (line_at ls i).indent indent n))
 
-    pub key-on : indent_at table i ≡ indent → key_end (line_at text table i).text ≡ key_here indent (drop i (table_lines text table count))
+    pub key-on : (line_at ls i).indent ≡ indent → key_end (line_at ls i).text ≡ key_here indent (drop i ls)
     unfolding key_here key_at
-    key-on e = sym (ap (key_here indent) (rows_next text table count i h) ∙ rw (eq-eqb (indent_at table i) indent e))
+    key-on e = sym (ap (key_here indent) (lines_next ls i h) ∙ rw (eq-eqb (line_at ls i).indent indent e))

@@ -1,11 +1,11 @@
 -- The steps of a `repeat`, one by one: each is read before one of them is refused for its command. Assumes nothing.
 use mathlib.Core.Path.{◌≡◌, refl, sym, ap, ◌∙◌, subst}
-use Prim.Native.Nat.{ℕ, suc, ◌+◌, ◌-◌, ◌≤◌}
+use Prim.Native.Nat.{ℕ, suc, ◌+◌, ◌-◌, ◌≤◌, ◌<◌, ◌^◌}
 use native.Mathlib.Omega.{arith}
 use mathlib.Core.List.{List, [], ◌∷◌}
 use mathlib.Core.Bool.{Bool, true, false, ◌&&◌}
 use mathlib.Core.Option.{none, some}
-use lib.ListN.{take, drop}
+use lib.ListN.{length, take, drop}
 use Rattle.refusal.specs.Base.{Answer, good, refused, ◌>>=◌, ◌>>◌, ensure, given}
 use Rattle.refusal.specs.Told.{refusal}
 use Rattle.refusal.specs.declared.Refusal.{Refusal}
@@ -14,13 +14,16 @@ use Rattle.item.specs.Encode.{encode, kind_of}
 use Rattle.utf8.proofs.Ranges.{and-false}
 use Rattle.step_lines.specs.StepLines.{head_line, tail_lines}
 use Rattle.entries.specs.Entries.{Stands, Holds}
-use Rattle.entries.proofs.Walking.{no-more-items, ItemTurn}
+use Rattle.entries.proofs.Walking.{no-more-items, ItemTurn, item-turn, no_item}
 use Rattle.meaning.specs.Meaning.{Step}
 use Rattle.meaning.specs.Meanings.{sequence_or, step_at, steps_from}
 use Rattle.step.specs.Contract.{ReadsStep, AgreesStep}
 use Rattle.step.specs.declared.StepPlaces.{StepPlaces}
-use Rattle.step.specs.declared.StepRead.{StepRead}
-use Rattle.step.specs.declared.StepRead.TheVariants as read
+use Rattle.std.specs.Prelude.{Result, Ok, Err}
+use Rattle.item.specs.Places.{header_at}
+use Rattle.item.specs.declared.Item.{Item}
+use Rattle.item.specs.declared.Broken.{Broken}
+use Rattle.entries.specs.Entries.{span_at}
 use Rattle.check_steps.specs.CheckSteps.{known, repeated, all_known, check_inner, check_repeat}
 
 and-true : (b : Bool) → b && true ≡ b
@@ -28,6 +31,15 @@ and-true true = refl
 and-true false = refl
 
 -- ---- one step after another
+
+module _ {s : List ℕ} {at to : ℕ} (ys : Items) (w : length s ≤ 2 ^ 20) (m : at < to) (h : Holds s at to ys) where
+  pub inner-turn : {item : Item} → Ok item ≡ header_at s at → ItemTurn s at to ys item.to
+  unfolding span_at
+  inner-turn e = item-turn ys w m h (ap (span_at at) e)
+
+  pub no-inner : {broken : Broken} {X : Type 0} → Err broken ≡ header_at s at → X
+  unfolding span_at
+  no-inner e = no_item ys w m h (ap (span_at at) e)
 
 -- with the steps that are left, and whether the commands of those before them are known
 unfoldable pub onward : List (List ℕ) → ℕ → ℕ → Bool → ℕ → Items → Answer (Unit {0})
@@ -66,17 +78,17 @@ module _ {s : List ℕ} {to at : ℕ} {ns : List (List ℕ)} {line step : ℕ} {
     unfolding onward steps_from this head_line tail_lines
     turned = w.same ∙ ap (onward ns line step b number) t.item.is
 
-    module _ {r : StepRead} (promise : (y : Yaml) → Ranged y → Stands s at (encode y) → AgreesStep s (step_at 0 (number + 1) y) r) where
-      told : {q : StepRead} → r ≡ q → AgreesStep s (step_at 0 (suc number) t.item.y) q
+    module _ {r : Result StepPlaces Refusal} (promise : (y : Yaml) → Ranged y → Stands s at (encode y) → AgreesStep s (step_at 0 (number + 1) y) r) where
+      told : {q : Result StepPlaces Refusal} → r ≡ q → AgreesStep s (step_at 0 (suc number) t.item.y) q
       told {q} e =
           let n : number + 1 ≡ suc number = omega arith in
           subst (λ (i : ℕ). AgreesStep s (step_at 0 i t.item.y) q) n (subst (AgreesStep s (step_at 0 (number + 1) t.item.y)) e (promise t.item.y t.item.ranged t.item.value))
 
-      pub walk_refused : {e : Refusal} → r ≡ read.Refused e → refusal e ≡ check_inner ns line step ys
+      pub walk_refused : {e : Refusal} → r ≡ Err e → refusal e ≡ check_inner ns line step ys
       unfolding this ◌>>=◌
       walk_refused q = sym (turned ∙ ap this (told q))
 
-      walk-on : {p : StepPlaces} → r ≡ read.Step p → {k : Bool} → k ≡ known ns (take (p.value - p.key) (drop p.key s))
+      walk-on : {p : StepPlaces} → r ≡ Ok p → {k : Bool} → k ≡ known ns (take (p.value - p.key) (drop p.key s))
           → Walked s to next ns line step ys (number + 1) (b && k)
       unfolding this onward all_known ensure ◌>>◌ ◌>>=◌
       walk-on {p} q {k} e =
@@ -98,10 +110,10 @@ module _ {s : List ℕ} {to at : ℕ} {ns : List (List ℕ)} {line step : ℕ} {
           behind x c (good ss) = rw c (both b k (all_known ns line step ss))
           behind x c (refused n l i) = refl
 
-      pub walk-known : {p : StepPlaces} → r ≡ read.Step p → true ≡ known ns (take (p.value - p.key) (drop p.key s)) → Walked s to next ns line step ys (number + 1) b
+      pub walk-known : {p : StepPlaces} → r ≡ Ok p → true ≡ known ns (take (p.value - p.key) (drop p.key s)) → Walked s to next ns line step ys (number + 1) b
       walk-known q e = subst (Walked s to next ns line step ys (number + 1)) (and-true b) (walk-on q e)
 
-      pub walk-stranger : {p : StepPlaces} → r ≡ read.Step p → false ≡ known ns (take (p.value - p.key) (drop p.key s)) → Walked s to next ns line step ys (number + 1) false
+      pub walk-stranger : {p : StepPlaces} → r ≡ Ok p → false ≡ known ns (take (p.value - p.key) (drop p.key s)) → Walked s to next ns line step ys (number + 1) false
       walk-stranger q e = subst (Walked s to next ns line step ys (number + 1)) (and-false b) (walk-on q e)
 
 -- ---- the value of `steps`

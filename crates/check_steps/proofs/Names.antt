@@ -7,27 +7,24 @@ use mathlib.Core.Bool.{Bool, true, false, ◌||◌, ◌&&◌}
 use mathlib.Core.Option.{Option, none, some, some-injective}
 use lib.Dec.{eqb, leb}
 use lib.ListN.{length, take, drop, length-drop, drop_of_length-le, take-append-drop}
-use borrow.Author.Tests.{eqb-true, eqb-false, leb-true}
+use borrow.Author.Tests.{leb-true}
 use Rattle.refusal.specs.Base.{maybe, same, one_of}
 use Rattle.refusal.proofs.Tools.{chosen}
 use Rattle.item.specs.Encode.{number}
-use Rattle.item.specs.Decode.{◌>>=◌, header, nothing, content_of, node, decode}
+use Rattle.item.specs.Decode.{◌>>=◌, header, nothing}
 use Rattle.item.specs.Places.{header_at}
-use Rattle.item.specs.declared.Header.TheVariants.{Item}
-use Rattle.item.proofs.Headers.{spans, header-item}
+use Rattle.std.specs.Prelude.{Ok, Err}
+use Rattle.item.specs.declared.Item.{Item}
+use Rattle.item.specs.declared.Broken.{Broken}
+use Rattle.item.proofs.Headers.{no_header as no-item-there}
 use Rattle.item.proofs.Exact.{got, none≢, and_left, nothing-inv}
 use Rattle.utf8.specs.Utf8.{is_utf8}
-use Rattle.meaning.specs.Sound.{sound}
 use Rattle.meaning.specs.Meaning.{built_in_steps}
-use Rattle.value.specs.Tree.{tree}
-use Rattle.value.specs.Walks.{Walks}
-use Rattle.value.specs.declared.End.TheVariants.{At, Nowhere}
 use Rattle.value.proofs.Contents.{no_header}
 use Rattle.value.proofs.Invariants.{whole-rest}
 use Rattle.record.specs.Read.{field_of, as_text, content, in_item, many, all}
 use Rattle.record.specs.Contract.{is_some, are_texts, ItemAt}
-use Rattle.record.proofs.Headers.{neither}
-use Rattle.record.proofs.Views.{no_field, other-kind, text-walks}
+use Rattle.record.proofs.Views.{no_field, text-read, no-text}
 use Rattle.record.proofs.Invariants.{ends, left_over}
 use Rattle.record.proofs.Chains.{no_item, no-content, in_item_lem}
 use Rattle.check_steps.specs.Names.{filled, names_in}
@@ -35,50 +32,14 @@ use Rattle.check_steps.specs.CheckSteps.{known}
 
 -- ---- one name
 
-module _ (bs c r : List ℕ) (e : header bs ≡ some (3, c, r)) where
-  text-here : is_utf8 c ≡ true → field_of as_text 0 bs ≡ some (c, r)
-  unfolding field_of as_text tree decode node content_of sound ◌>>=◌
-  text-here u = rw (e, u)
-
-  text-broken : is_utf8 c ≡ false → field_of as_text 0 bs ≡ none
-  unfolding field_of as_text tree decode node content_of sound ◌>>=◌
-  text-broken u = rw (e, u)
-
-pub no_name : (s : List ℕ) (at : ℕ) → header (drop at s) ≡ none → field_of as_text 0 (drop at s) ≡ none
-no_name s at e = no_field as_text 0 (drop at s) (no_header 0 (drop at s) e)
-
-module _ (s : List ℕ) (at : ℕ) {kind from to : ℕ} (h : Item kind from to ≡ header_at s at) where
-  abbrev part : List ℕ
-  part = take (to - from) (drop from s)
-
-  pub other_name : (kind ≡ 3 → ⊥) → field_of as_text 0 (drop at s) ≡ none
-  other_name n = text-walks 0 s at Nowhere (other-kind 3 3 0 s at kind part (drop to s) (header-item s at h) (neither kind 3 3 n n))
-
-  module _ (k : kind ≡ 3) where
-    text_head : header (drop at s) ≡ some (3, part, drop to s)
-    text_head = header-item s at h ∙ ap (λ (n : ℕ). some (n, part, drop to s)) k
-
-    pub name-broken : is_utf8 part ≡ false → field_of as_text 0 (drop at s) ≡ none
-    name-broken u = text-broken (drop at s) part (drop to s) text_head u
-
-    pub name-here : is_utf8 part ≡ true → Walks (field_of as_text 0) s at (At to)
-    name-here u =
-        let i = spans s at h in
-        record {
-          value = part;
-          is = text-here (drop at s) part (drop to s) text_head u;
-          forward = omega (arith, i.start, i.order);
-          fits = i.fits;
-        }
-
+module _ (s : List ℕ) (at : ℕ) {item : Item} (h : Ok item ≡ header_at s at) where
   -- what is read there is what the header says
-  name-is : (x : List ℕ × List ℕ) → field_of as_text 0 (drop at s) ≡ some x → some x ≡ some (part, drop to s)
-  name-is x e = go (eqb kind 3) (is_utf8 part) refl refl
+  name-is : (x : List ℕ × List ℕ) → field_of as_text 0 (drop at s) ≡ some x → some x ≡ some (take (item.to - item.from) (drop item.from s), drop item.to s)
+  name-is x e = go (eqb item.kind 3 && is_utf8 (take (item.to - item.from) (drop item.from s))) refl
     where
-      go : (a b : Bool) → eqb kind 3 ≡ a → is_utf8 part ≡ b → some x ≡ some (part, drop to s)
-      go false b p q = none≢ x (sym (other_name (eqb-false kind 3 p)) ∙ e)
-      go true false p q = none≢ x (sym (name-broken (eqb-true kind 3 p) q) ∙ e)
-      go true true p q = sym e ∙ text-here (drop at s) part (drop to s) (text_head (eqb-true kind 3 p)) q
+      go : (t : Bool) → eqb item.kind 3 && is_utf8 (take (item.to - item.from) (drop item.from s)) ≡ t → some x ≡ some (take (item.to - item.from) (drop item.from s), drop item.to s)
+      go true p = sym e ∙ text-read s at h p
+      go false p = none≢ x (sym (no-text s at h p) ∙ e)
 
 -- ---- the check of a list
 
@@ -191,18 +152,18 @@ first-name (b ∷ bs) (suc t) rest name behind h e f =
       more = ap (λ (z : List ℕ × List ℕ). many (field_of as_text 0) t z.1) (sym same_x) ∙ q;
     }
 
-module _ {s key : List ℕ} {at : ℕ} {ns : List (List ℕ)} (w : Unread s key at ns) (m : at < length s) {kind from to : ℕ} (h : Item kind from to ≡ header_at s at) where
-  turn : FirstName w.rest (take (to - from) (drop from s)) (drop to s)
+module _ {s key : List ℕ} {at : ℕ} {ns : List (List ℕ)} (w : Unread s key at ns) (m : at < length s) {item : Item} (h : Ok item ≡ header_at s at) where
+  turn : FirstName w.rest (take (item.to - item.from) (drop item.from s)) (drop item.to s)
   turn = first-name (drop at s) w.turns w.rest _ _ (omega (arith, length-drop at s)) w.is (name-is s at h)
 
-  here : one_of key ns ≡ (same key (take (to - from) (drop from s)) || one_of key turn.others)
+  here : one_of key ns ≡ (same key (take (item.to - item.from) (drop item.from s)) || one_of key turn.others)
   unfolding one_of
   here = w.same_answer ∙ ap (one_of key) turn.is
 
-  pub unread-found : same key (take (to - from) (drop from s)) ≡ true → true ≡ one_of key ns
+  pub unread-found : same key (take (item.to - item.from) (drop item.from s)) ≡ true → true ≡ one_of key ns
   unread-found e = sym (here ∙ rw e)
 
-  pub unread-on : same key (take (to - from) (drop from s)) ≡ false → Unread s key to ns
+  pub unread-on : same key (take (item.to - item.from) (drop item.from s)) ≡ false → Unread s key item.to ns
   unread-on e = record { turns = turn.turns; rest = turn.others; is = turn.more; same_answer = here ∙ rw e }
 
 -- no name without an item
@@ -212,15 +173,11 @@ lost [] t rest h e n = absurd (omega arith)
 lost (b ∷ bs) zero rest h e n = none≢ rest e
 lost (b ∷ bs) (suc t) rest h e n = got (field_of as_text 0 (b ∷ bs)) _ rest e λ x p _. none≢ x (sym n ∙ p)
 
-pub unread-lost : {s key : List ℕ} {at : ℕ} {ns : List (List ℕ)} {X : Type 0} → Unread s key at ns → at < length s → header (drop at s) ≡ none → X
-unread-lost {s} {at = at} w m e = lost (drop at s) w.turns w.rest (omega (arith, length-drop at s)) w.is (no_name s at e)
+pub unread-lost : {s key : List ℕ} {at : ℕ} {ns : List (List ℕ)} {X : Type 0} → Unread s key at ns → at < length s → {broken : Broken} → Err broken ≡ header_at s at → X
+unread-lost {s} {at = at} w m e = lost (drop at s) w.turns w.rest (omega (arith, length-drop at s)) w.is (no_field as_text 0 (drop at s) (no_header 0 (drop at s) (no-item-there s at e)))
 
 -- ---- known commands
 
-pub known-built-in : (ns : List (List ℕ)) (key : List ℕ) → one_of key built_in_steps ≡ true → true ≡ known ns key
+pub known-named : (ns : List (List ℕ)) (key : List ℕ) {a b : Bool} → a ≡ one_of key built_in_steps → b ≡ one_of key ns → a || b ≡ known ns key
 unfolding known
-known-built-in ns key e = rw e
-
-pub known-named : (ns : List (List ℕ)) (key : List ℕ) {b : Bool} → one_of key built_in_steps ≡ false → b ≡ one_of key ns → b ≡ known ns key
-unfolding known
-known-named ns key e p = p ∙ sym (rw e)
+known-named ns key e p = rw (e, p)

@@ -3,9 +3,12 @@ use mathlib.Core.Path.{◌≡◌, refl, sym, ap, ◌∙◌}
 use Prim.Native.Nat.{ℕ, suc, ◌+◌, ◌≤◌, ◌<◌}
 use native.Mathlib.Omega.{arith}
 use mathlib.Core.List.{List, [], ◌∷◌}
-use mathlib.Core.Bool.{true, false}
+use mathlib.Core.Bool.{Bool, true, false}
 use lib.ListN.{length, drop, get_or, drop_of_length-le}
 use lib.Seq.{drop-cons, drop-drop}
+use lib.Dec.{ltb}
+use borrow.Author.Tests.{ltb-true, ltb-false}
+use Rattle.std.proofs.lemmas.List.{get_or_past}
 use Rattle.refusal.specs.Base.{good, refused, ◌>>=◌, ◌>>◌, ensure, bytes, same}
 use Rattle.step_lines.specs.StepLines.{head_line, tail_lines}
 use Rattle.meaning.specs.Meaning.{Step}
@@ -31,13 +34,13 @@ module _ (ns : List (List ℕ)) (line step : ℕ) (x : Step) where
 
 -- ---- lines
 
-pub line-there : (lines : List ℕ) (i : ℕ) → i < length lines → get_or lines i 0 ≡ head_line (drop i lines)
+pub line-is : (lines : List ℕ) (i : ℕ) → get_or lines i 0 ≡ head_line (drop i lines)
 unfolding head_line
-line-there lines i h = sym (rw (drop-cons lines i 0))
-
-pub line-beyond : (lines : List ℕ) (i : ℕ) → length lines ≤ i → 0 ≡ head_line (drop i lines)
-unfolding head_line
-line-beyond lines i h = sym (rw (drop_of_length-le lines {i = i} h))
+line-is lines i = go (ltb i (length lines)) refl
+  where
+    go : (t : Bool) → ltb i (length lines) ≡ t → get_or lines i 0 ≡ head_line (drop i lines)
+    go true e = let h : i < length lines = ltb-true _ _ e in sym (rw (drop-cons lines i 0))
+    go false e = let h : length lines ≤ i = ltb-false _ _ e in rw (drop_of_length-le lines {i = i} h) (get_or_past lines i 0 h)
 
 tail-is : (lines : List ℕ) → tail_lines lines ≡ drop 1 lines
 unfolding tail_lines

@@ -1,112 +1,64 @@
-// The check of a record's steps (document 01, section 6): whether each command is built in or among the names that the caller lends, and
-// whether each `repeat` holds steps. A record and a name list come from outside: any bytes are taken and checked, and nothing is written.
+// The check of a record's steps: whether each command is built in or among the names that the caller lends, and whether each `repeat`
+// holds steps. A record and a name list come from outside: any bytes are taken and checked, and nothing is written.
 #![tactic(auto)]
 
 ghost use Rattle.std.specs.Prelude.{◌≡◌, List, ℕ, ◌+◌, ◌≤◌, ◌^◌, length, drop};
 ghost use Rattle.std.proofs.Math.Option.{some};
 ghost use Rattle.refusal.specs.Base.{one_of};
-ghost use Rattle.item.specs.Tree.{Yaml, Items, Ranged};
+ghost use Rattle.item.specs.Tree.{Yaml, Items as Trees, Ranged};
 ghost use Rattle.item.specs.Encode.{encode};
 ghost use Rattle.step_lines.specs.StepLines.{head_line};
 ghost use Rattle.entries.specs.Entries.{Stands, Holds, Finds};
 ghost use Rattle.meaning.specs.Meaning.{Step};
 ghost use Rattle.meaning.specs.Record.{step_item};
-ghost use Rattle.value.specs.Walks.{Walks};
-ghost use Rattle.record.specs.Read.{field_of, as_text};
-ghost use Rattle.record.specs.Contract.{is_some, are_texts, StepsLie};
+ghost use Rattle.record.specs.Contract.{is_some, StepsLie};
 ghost use Rattle.check_steps.specs.Names.{filled, names_in};
 ghost use Rattle.check_steps.specs.CheckSteps as definition;
 ghost use Rattle.check_steps.specs.CheckSteps.{answer_of, known, repeated, check_inner, check_repeat, check_step, check_from};
 ghost use Rattle.check_steps.specs.Contract.{checked_of};
 
-use entries::{Span, find, item_at, nth_item};
-use item::{Found, Header, equal_bytes, header_at, same_bytes};
+use entries::{find, nth_item};
+use item::{Found, Items, Kind, header_at, same_bytes};
 use meaning::is_built_in;
-use record::{RecordAnswer, check_record};
+use record::{RecordAnswer, are_texts, check_record};
 use refusal::Refusal;
-use step::{StepRead, read_step};
-use utf8::is_utf8;
-use value::End;
+use step::read_step;
 
 // What the check of the steps answers.
-#[derive(Clone, Copy)]
+// An enum of its own, as each public job answers: what it tells has names, and the definitions name its cases.
+#[derive(Clone, Copy, Debug, PartialEq, Eq)]
 pub enum StepsAnswer {
     Good { steps: usize },
     Refused(Refusal),
-}
-
-// Whether some steps are good. Bytes where no steps stand are no record; behind the check of the record there are none.
-#[derive(Clone, Copy)]
-enum Checked {
-    Passed,
-    Refused(Refusal),
-}
-
-// The end of the name that begins at `at`.
-fn name_at(s: &[u8], at: usize) -> End
-    ensures { Walks (field_of as_text 0) s.now at result }
-{
-    let head = header_at(s, at);
-    let Header::Item { kind, from, to } = head else {
-        return End::Nowhere;
-    };
-    if kind != 3 {
-        return End::Nowhere;
-    }
-    if is_utf8(&s[from..to]) {
-        return End::At(to);
-    }
-    End::Nowhere
-}
-
-// Whether names fill these bytes.
-fn are_names(s: &[u8]) -> bool
-    ensures { result ≡ are_texts s.now }
-{
-    let mut at = 0;
-    while at < s.len() {
-        let end = name_at(s, at);
-        let End::At(next) = end else {
-            return false;
-        };
-        at = next;
-    }
-    true
 }
 
 // Whether these bytes are a name list.
 fn is_list(names: &[u8]) -> bool
     ensures { result ≡ is_some (names_in names.now) }
 {
-    let head = header_at(names, 0);
-    let Header::Item { kind, from, to } = head else {
+    let Ok(list) = header_at(names, 0) else {
         return false;
     };
-    if kind != 4 {
+    if list.kind != Kind::Seq as usize {
         return false;
     }
-    if to != names.len() {
+    if list.to != names.len() {
         return false;
     }
-    are_names(&names[from..to])
+    are_texts(&names[list.from..list.to])
 }
 
 // Whether a key is one of the names that fill `names`.
 fn is_name(names: &[u8], key: &[u8]) -> bool
     ensures { (ns : List (List ℕ)) → filled names.now ≡ some ns → result ≡ one_of key.now ns }
 {
-    let mut at = 0;
-    while at < names.len() {
-        let head = header_at(names, at);
-        let Header::Item { kind: _, from, to } = head else {
+    for name in Items::new(names) {
+        let Ok(name) = name else {
             return false;
         };
-        if to - from == key.len() {
-            if equal_bytes(key, &names[from..to]) {
-                return true;
-            }
+        if same_bytes(key, &names[name.from..name.to]) {
+            return true;
         }
-        at = to;
     }
     false
 }
@@ -114,47 +66,41 @@ fn is_name(names: &[u8], key: &[u8]) -> bool
 fn is_known(names: &[u8], key: &[u8]) -> bool
     ensures { (ns : List (List ℕ)) → filled names.now ≡ some ns → result ≡ known ns key.now }
 {
-    if is_built_in(key) {
-        return true;
-    }
-    is_name(names, key)
+    is_built_in(key) || is_name(names, key)
 }
 
+// Below, bytes where no steps stand are no record; behind the check of the record there are none.
+
 // The steps of a `repeat`, which stand from `from` to `to`: all of them are read before one is refused for its command.
-fn check_inner(s: &[u8], from: usize, to: usize, names: &[u8], line: u32, outer: u32) -> Checked
+fn check_inner(
+    s: &[u8],
+    from: usize,
+    to: usize,
+    names: &[u8],
+    line: u32,
+    outer: u32,
+) -> Result<(), Refusal>
     requires { length s.now ≤ 2 ^ 20 }
-    ensures { (ns : List (List ℕ)) → filled names.now ≡ some ns → (ys : Items) → Holds s.now from to ys
+    ensures { (ns : List (List ℕ)) → filled names.now ≡ some ns → (ys : Trees) → Holds s.now from to ys
         → checked_of result ≡ check_inner ns line outer ys }
 {
-    let mut at = from;
     let mut number: u32 = 0;
     let mut all_known = true;
-    while at < to {
-        let item = item_at(s, at);
-        let Span::At {
-            start: _,
-            end: next,
-        } = item
-        else {
-            return Checked::Refused(Refusal::Malformed);
+    for item in Items::within(s, from, to) {
+        let Ok(item) = item else {
+            return Err(Refusal::Malformed);
         };
         number += 1;
-        match read_step(s, at, 0, number) {
-            StepRead::Refused(e) => return Checked::Refused(e),
-            StepRead::Step(places) => {
-                let key = places.key;
-                let value = places.value;
-                at = next;
-                if !is_known(names, &s[key..value]) {
-                    all_known = false;
-                }
-            }
+        let start = item.from - 6;
+        let step = read_step(s, start, 0, number)?;
+        if !is_known(names, &s[step.key..step.value]) {
+            all_known = false;
         }
     }
     if all_known {
-        return Checked::Passed;
+        return Ok(());
     }
-    Checked::Refused(Refusal::UnknownCommand { line, step: outer })
+    Err(Refusal::UnknownCommand { line, step: outer })
 }
 
 // The value of `steps` in the mapping at `at`.
@@ -162,94 +108,78 @@ fn find_steps(s: &[u8], at: usize) -> Found
     requires { length s.now ≤ 2 ^ 20 }
     ensures { (v : Yaml) → Ranged v → Stands s.now at (encode v) → Finds s.now (repeated v) result }
 {
-    let head = header_at(s, at);
-    let Header::Item { kind, from, to } = head else {
+    let Ok(item) = header_at(s, at) else {
         return Found::Nothing;
     };
-    if kind != 5 {
+    if item.kind != Kind::Map as usize {
         return Found::Nothing;
     }
-    find(s, from, to, b"steps")
+    find(s, item.from, item.to, b"steps")
 }
 
 // The value at `at`, of a `repeat` in this line and of this step.
-fn check_repeat(s: &[u8], at: usize, names: &[u8], line: u32, step: u32) -> Checked
+fn check_repeat(s: &[u8], at: usize, names: &[u8], line: u32, step: u32) -> Result<(), Refusal>
     requires { length s.now ≤ 2 ^ 20 }
     ensures { (ns : List (List ℕ)) → filled names.now ≡ some ns → (v : Yaml) → Ranged v
         → Stands s.now at (encode v) → checked_of result ≡ check_repeat ns line step v }
 {
-    let found = find_steps(s, at);
-    let Found::At(p) = found else {
-        return Checked::Refused(Refusal::RepeatWithoutSteps { step });
+    let Found::At(place) = find_steps(s, at) else {
+        return Err(Refusal::RepeatWithoutSteps { step });
     };
-    let head = header_at(s, p);
-    let Header::Item { kind, from, to } = head else {
-        return Checked::Refused(Refusal::Malformed);
+    let Ok(item) = header_at(s, place) else {
+        return Err(Refusal::Malformed);
     };
-    if kind == 0 {
-        return Checked::Passed;
+    if item.kind == Kind::Null as usize {
+        return Ok(());
     }
-    if kind != 4 {
-        return Checked::Refused(Refusal::StepsNotSequence);
+    if item.kind != Kind::Seq as usize {
+        return Err(Refusal::StepsNotSequence);
     }
-    check_inner(s, from, to, names, line, step)
+    check_inner(s, item.from, item.to, names, line, step)
 }
 
-// The step whose item begins at `at`. Its key is its third item, its value stands behind that.
-fn check_step(s: &[u8], at: usize, names: &[u8], line: u32, step: u32) -> Checked
-    requires { (at + 6 ≤ length s.now) × (length s.now ≤ 2 ^ 20) }
-    ensures { (ns : List (List ℕ)) → filled names.now ≡ some ns → (x : Step) → Ranged x.value
+// The step whose parts begin at `from`. Its key is the third of them, its value stands behind that.
+fn check_step(s: &[u8], from: usize, names: &[u8], line: u32, step: u32) -> Result<(), Refusal>
+    requires { length s.now ≤ 2 ^ 20 }
+    ensures { (ns : List (List ℕ)) → filled names.now ≡ some ns → (at : ℕ) (x : Step) → from ≡ at + 6 → Ranged x.value
         → Stands s.now at (step_item x) → checked_of result ≡ check_step ns line step x }
 {
-    let key = nth_item(s, at + 6, 2);
-    let Span::At { start, end } = key else {
-        return Checked::Refused(Refusal::Malformed);
+    let Some(key) = nth_item(s, from, 2) else {
+        return Err(Refusal::Malformed);
     };
-    let from = start + 6;
-    if !is_known(names, &s[from..end]) {
-        return Checked::Refused(Refusal::UnknownCommand { line, step });
+    let command = &s[key.start + 6..key.end];
+    if !is_known(names, command) {
+        return Err(Refusal::UnknownCommand { line, step });
     }
-    if same_bytes(&s[from..end], b"repeat") {
-        return check_repeat(s, end, names, line, step);
+    if same_bytes(command, b"repeat") {
+        return check_repeat(s, key.end, names, line, step);
     }
-    Checked::Passed
+    Ok(())
 }
 
 // The line of the step with so many before it.
-fn line_of(lines: &[u32], i: usize) -> u32
-    ensures { result ≡ head_line (drop i lines.now) }
+fn line_of(lines: &[u32], before: usize) -> u32
+    ensures { result ≡ head_line (drop before lines.now) }
 {
-    if i < lines.len() {
-        return lines[i];
-    }
-    0
+    lines.get(before).copied().unwrap_or(0)
 }
 
 // The steps whose items stand from `from` to `to`.
-fn check_all(s: &[u8], from: usize, to: usize, lines: &[u32], names: &[u8]) -> Checked
+fn check_all(s: &[u8], from: usize, to: usize, lines: &[u32], names: &[u8]) -> Result<(), Refusal>
     requires { length s.now ≤ 2 ^ 20 }
     ensures { (ns : List (List ℕ)) → filled names.now ≡ some ns → (xs : List Step)
         → StepsLie s.now from to xs → checked_of result ≡ check_from ns 1 lines.now xs }
 {
-    let mut at = from;
-    let mut i = 0;
-    while at < to {
-        let item = item_at(s, at);
-        let Span::At {
-            start: _,
-            end: next,
-        } = item
-        else {
-            return Checked::Refused(Refusal::Malformed);
+    let mut number = 0;
+    for item in Items::within(s, from, to) {
+        let Ok(item) = item else {
+            return Err(Refusal::Malformed);
         };
-        let line = line_of(lines, i);
-        i += 1;
-        match check_step(s, at, names, line, i as u32) {
-            Checked::Refused(e) => return Checked::Refused(e),
-            Checked::Passed => at = next,
-        }
+        let line = line_of(lines, number);
+        number += 1;
+        check_step(s, item.from, names, line, number as u32)?;
     }
-    Checked::Passed
+    Ok(())
 }
 
 // `lines` are those of the steps; `names` is a list of the commands that are known beside the built-in ones.
@@ -257,19 +187,17 @@ pub fn check_steps(record: &[u8], lines: &[u32], names: &[u8]) -> StepsAnswer
     ensures { answer_of result ≡ definition.check_steps «record».now lines.now names.now }
 {
     match check_record(record) {
-        RecordAnswer::Refused(e) => StepsAnswer::Refused(e),
+        RecordAnswer::Refused(refusal) => StepsAnswer::Refused(refusal),
         RecordAnswer::Good { steps } => {
             if !is_list(names) {
                 return StepsAnswer::Refused(Refusal::Malformed);
             }
-            match nth_item(record, 6, 7) {
-                Span::Nowhere => StepsAnswer::Refused(Refusal::Malformed),
-                Span::At { start, end } => {
-                    match check_all(record, start + 6, end, lines, &names[6..]) {
-                        Checked::Refused(e) => StepsAnswer::Refused(e),
-                        Checked::Passed => StepsAnswer::Good { steps },
-                    }
-                }
+            let Some(list) = nth_item(record, 6, 7) else {
+                return StepsAnswer::Refused(Refusal::Malformed);
+            };
+            match check_all(record, list.start + 6, list.end, lines, &names[6..]) {
+                Ok(()) => StepsAnswer::Good { steps },
+                Err(refusal) => StepsAnswer::Refused(refusal),
             }
         }
     }

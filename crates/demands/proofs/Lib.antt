@@ -1,4 +1,3 @@
 pub mod Calls
-pub mod Filling
-pub mod Lookups
 pub mod Records
+pub mod Lookups

@@ -62,12 +62,13 @@ module _ (b : List ℕ) (small : Bytes b) where
       closed : meaning_in b ≡ none
       closed = go (meaning_in b) refl
 
-  -- every check ends in one of the two
-  pub record-ends : (r : RecordAnswer) → answer_of r ≡ check_record b → RecordEnds b r
-  record-ends (Good n) p = good-only n (sym p)
-  record-ends (Refused e) p =
-      let none : (m : Meaning) → IsRecord b m → ⊥ = λ m w. refused≢good _ _ _ _ (p ∙ (check-decides b small).accepts m w) in
-      (p ∙ (check-decides b small).refuses none, no_record none)
+-- every check ends in one of the two
+pub record_told : (b : List ℕ) → ((i : ℕ) → get_or b i 0 < 256) → (r : RecordAnswer) → answer_of r ≡ check_record b → RecordEnds b r
+record_told b small (Good n) p = good-only b (bytes_of b small) n (sym p)
+record_told b small (Refused e) p =
+    let d = check-decides b (bytes_of b small) in
+    let none : (m : Meaning) → IsRecord b m → ⊥ = λ m w. refused≢good _ _ _ _ (p ∙ d.accepts m w) in
+    (p ∙ d.refuses none, no_record b (bytes_of b small) none)
 
 pub good-as : (b : List ℕ) → ((i : ℕ) → get_or b i 0 < 256) → {r : RecordAnswer} {n : ℕ} → r ≡ Good n → answer_of r ≡ check_record b → GoodRecord b n
 good-as b small {n = n} e p = good-only b (bytes_of b small) n (sym (ap answer_of (sym e) ∙ p))

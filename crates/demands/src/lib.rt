@@ -1,16 +1,18 @@
 // What a caller can count on (document 01, demands 1 to 3). Each function calls the public jobs as a board does, on whatever it is lent,
-// and its contract is a demand: it is proved from the contracts of the jobs alone.
+// and its contract is a demand: it is proved from the contracts of the jobs alone. What is lent is passed as the jobs take it, one output
+// by one, since their clauses name each.
 #![tactic(auto)]
 
 ghost use Rattle.std.specs.Prelude.{◌≡◌, true};
 ghost use Rattle.meaning.specs.Record.{fields};
 ghost use Rattle.record.specs.Jobs as jobs;
 ghost use Rattle.record.specs.Jobs.{lookup_of};
+ghost use Rattle.record.specs.Theorems.{shown};
 ghost use Rattle.refusal.specs.Told.{told_of};
 ghost use Rattle.scenario.specs.Scenario.{scenario_of};
 ghost use Rattle.scenario.specs.Told.{ScenarioEnds};
-ghost use Rattle.demands.specs.Records.{GoodRecord, RecordEnds};
-ghost use Rattle.demands.specs.Contract.{lookup, items, count, PartsTo};
+ghost use Rattle.demands.specs.Records.{RecordEnds};
+ghost use Rattle.demands.specs.Contract.{RecordRead, LooksUp, Parts};
 ghost use Rattle.demands.specs.Demands.{TreeEnds, TellsRefusal, Compares, lacks, is_good, out_of_range};
 ghost use Rattle.demands.specs.Demands.{ItemShown, step_items, TextItem};
 
@@ -21,7 +23,7 @@ use scenario::{ScenarioAnswer, read_scenario};
 use tree::{TreeAnswer, read_tree};
 
 // What comparing the records of two texts answers; neither where one of them was refused.
-#[derive(Clone, Copy)]
+#[derive(Clone, Copy, Debug, PartialEq, Eq)]
 pub enum Compared {
     Same,
     Different,
@@ -29,6 +31,7 @@ pub enum Compared {
 }
 
 // Every reading of a tree ends in one of two ways.
+#[tactic(auto, using(crate::proofs::Calls::tree_told))]
 pub fn tree_ends(text: &[u8], work: &mut [u8]) -> TreeAnswer
     ensures { TreeEnds text.now work.old work.new result }
 {
@@ -36,6 +39,7 @@ pub fn tree_ends(text: &[u8], work: &mut [u8]) -> TreeAnswer
 }
 
 // So does every reading of a scenario.
+#[tactic(auto, using(crate::proofs::Calls::scenario_told))]
 pub fn scenario_ends(
     text: &[u8],
     work: &mut [u8],
@@ -49,6 +53,7 @@ pub fn scenario_ends(
 }
 
 // And every check of a record.
+#[tactic(auto, using(crate::proofs::Records::record_told))]
 pub fn record_ends(record: &[u8]) -> RecordAnswer
     ensures { RecordEnds «record».now result }
 {
@@ -63,12 +68,7 @@ pub fn told(text: &[u8], work: &mut [u8], record: &mut [u8], lines: &mut [u32]) 
 {
     match read_scenario(text, work, record, lines) {
         ScenarioAnswer::Refused(e) => e.told(),
-        ScenarioAnswer::Read {
-            tree_bytes: _,
-            record_bytes: _,
-            line_bytes: _,
-            steps: _,
-        } => Told {
+        ScenarioAnswer::Read { .. } => Told {
             number: 0,
             line: 0,
             step: 0,
@@ -77,6 +77,7 @@ pub fn told(text: &[u8], work: &mut [u8], record: &mut [u8], lines: &mut [u32]) 
 }
 
 // Whether a record is good and has so many steps.
+#[tactic(auto, unfolding(crate::specs::Demands::is_good, crate::specs::Demands::good_with))]
 fn is_good(record: &[u8], steps: usize) -> bool
     ensures { result ≡ is_good «record».now steps }
 {
@@ -98,15 +99,29 @@ pub fn reads_good_records(
     match read_scenario(text, work, record, lines) {
         ScenarioAnswer::Refused(_) => true,
         ScenarioAnswer::Read {
-            tree_bytes: _,
             record_bytes,
-            line_bytes: _,
             steps,
+            ..
         } => is_good(&record[..record_bytes], steps),
     }
 }
 
-// Two texts are read into buffers of their own, and the first bytes compared.
+// The record of a text, or the refusal.
+fn record_of<'a>(
+    text: &[u8],
+    work: &mut [u8],
+    record: &'a mut [u8],
+    lines: &mut [u32],
+) -> Result<&'a [u8], Refusal>
+    ensures { RecordRead text.now work.old «record».old lines.old result }
+{
+    match read_scenario(text, work, record, lines) {
+        ScenarioAnswer::Refused(e) => Err(e),
+        ScenarioAnswer::Read { record_bytes, .. } => Ok(&record[..record_bytes]),
+    }
+}
+
+// Two texts are read into buffers of their own, and their records compared.
 pub fn compare_texts(
     text: &[u8],
     work: &mut [u8],
@@ -121,39 +136,25 @@ pub fn compare_texts(
         (scenario_of other_work.old other_record.old other_lines.old other.now)
         text.now other.now result }
 {
-    match read_scenario(text, work, record, lines) {
-        ScenarioAnswer::Refused(_) => Compared::Neither,
-        ScenarioAnswer::Read {
-            tree_bytes: _,
-            record_bytes: n,
-            line_bytes: _,
-            steps: _,
-        } => match read_scenario(other, other_work, other_record, other_lines) {
-            ScenarioAnswer::Refused(_) => Compared::Neither,
-            ScenarioAnswer::Read {
-                tree_bytes: _,
-                record_bytes: m,
-                line_bytes: _,
-                steps: _,
-            } => {
-                if same_bytes(&record[..n], &other_record[..m]) {
-                    return Compared::Same;
-                }
-                Compared::Different
-            }
-        },
+    let Ok(one) = record_of(text, work, record, lines) else {
+        return Compared::Neither;
+    };
+    let Ok(another) = record_of(other, other_work, other_record, other_lines) else {
+        return Compared::Neither;
+    };
+    if same_bytes(one, another) {
+        Compared::Same
+    } else {
+        Compared::Different
     }
 }
 
 // Whether a refusal says that too little was lent.
+#[tactic(auto, unfolding(crate::specs::Demands::lacks))]
 fn is_lack(e: Refusal) -> bool
     ensures { result ≡ lacks (told_of e).number }
 {
-    let told = e.told();
-    if told.number < 50 {
-        return false;
-    }
-    told.number <= 52
+    matches!(e.told().number, 50..=52)
 }
 
 // Whether one text that is read with one lending is read alike with any other, or too little is lent.
@@ -168,59 +169,25 @@ pub fn reads_alike(
 ) -> bool
     ensures { result ≡ true }
 {
-    match read_scenario(text, work, record, lines) {
-        ScenarioAnswer::Refused(_) => true,
-        ScenarioAnswer::Read {
-            tree_bytes: _,
-            record_bytes: n,
-            line_bytes: _,
-            steps: _,
-        } => match read_scenario(text, other_work, other_record, other_lines) {
-            ScenarioAnswer::Refused(e) => is_lack(e),
-            ScenarioAnswer::Read {
-                tree_bytes: _,
-                record_bytes: m,
-                line_bytes: _,
-                steps: _,
-            } => same_bytes(&record[..n], &other_record[..m]),
-        },
+    let Ok(one) = record_of(text, work, record, lines) else {
+        return true;
+    };
+    match record_of(text, other_work, other_record, other_lines) {
+        Ok(another) => same_bytes(one, another),
+        Err(e) => is_lack(e),
     }
 }
 
-// The two lookups: of a field by its place, of a step by its number.
-#[derive(Clone, Copy)]
-enum By {
-    Place,
-    Number,
-}
-
-fn find(record: &[u8], by: By, number: usize) -> Lookup
-    ensures { lookup_of result ≡ lookup by «record».now number }
+// The item that a lookup finds in any bytes, as `field` by a place or `step` by a number; nothing where there is none.
+#[tactic(auto, unfolding(record::specs::Theorems::shown))]
+fn item_of<L: Fn(&[u8], usize) -> Lookup>(record: &[u8], find: L, number: usize) -> &[u8]
+    requires { L.IsAlwaysCallable find }
+    ensures { (lookup : _) → LooksUp (L.post find) lookup
+        → result.now ≡ shown «record».now (lookup «record».now number) }
 {
-    match by {
-        By::Place => field(record, number),
-        By::Number => step(record, number),
-    }
-}
-
-// How many there are to find in a record of so many steps.
-fn count_of(by: By, steps: usize) -> usize
-    ensures { result ≡ count by steps }
-{
-    match by {
-        By::Place => 8,
-        By::Number => steps,
-    }
-}
-
-// The item that is found in any bytes; nothing where there is none.
-fn item_of(record: &[u8], by: By, number: usize) -> &[u8]
-    ensures { ItemShown (lookup by) (items by) «record».now number result.now }
-{
-    match find(record, by, number) {
+    match find(record, number) {
         Lookup::Found { start, end } => part(record, start, end),
-        Lookup::Nothing => part(record, 0, 0),
-        Lookup::Refused(_) => part(record, 0, 0),
+        Lookup::Nothing | Lookup::Refused(_) => &[],
     }
 }
 
@@ -228,46 +195,17 @@ fn item_of(record: &[u8], by: By, number: usize) -> &[u8]
 pub fn field_item(record: &[u8], place: usize) -> &[u8]
     ensures { ItemShown jobs.field fields «record».now place result.now }
 {
-    item_of(record, By::Place, place)
+    item_of(record, field, place)
 }
 
 // The item that a step's number finds.
 pub fn step_item(record: &[u8], number: usize) -> &[u8]
     ensures { ItemShown jobs.step step_items «record».now number result.now }
 {
-    item_of(record, By::Number, number)
+    item_of(record, step, number)
 }
 
-// The item that is found in the record of a text.
-fn text_item<'a>(
-    text: &[u8],
-    work: &mut [u8],
-    record: &'a mut [u8],
-    lines: &mut [u32],
-    by: By,
-    number: usize,
-) -> &'a [u8]
-    ensures { TextItem (items by) (scenario_of work.old «record».old lines.old text.now)
-        text.now number result.now }
-{
-    match read_scenario(text, work, record, lines) {
-        ScenarioAnswer::Refused(_) => {
-            let whole = &record[..];
-            part(whole, 0, 0)
-        }
-        ScenarioAnswer::Read {
-            tree_bytes: _,
-            record_bytes,
-            line_bytes: _,
-            steps: _,
-        } => {
-            let whole = &record[..];
-            item_of(&whole[..record_bytes], by, number)
-        }
-    }
-}
-
-// The item that a place finds there.
+// The item that a place finds in the record of a text. This and `text_step` are short enough to stand side by side.
 pub fn text_field<'a>(
     text: &[u8],
     work: &mut [u8],
@@ -278,7 +216,10 @@ pub fn text_field<'a>(
     ensures { TextItem fields (scenario_of work.old «record».old lines.old text.now)
         text.now place result.now }
 {
-    text_item(text, work, record, lines, By::Place, place)
+    match record_of(text, work, record, lines) {
+        Ok(whole) => field_item(whole, place),
+        Err(_) => &[],
+    }
 }
 
 // The item that a step's number finds there.
@@ -292,75 +233,72 @@ pub fn text_step<'a>(
     ensures { TextItem step_items (scenario_of work.old «record».old lines.old text.now)
         text.now number result.now }
 {
-    text_item(text, work, record, lines, By::Number, number)
+    match record_of(text, work, record, lines) {
+        Ok(whole) => step_item(whole, number),
+        Err(_) => &[],
+    }
 }
 
 // Whether a lookup is refused with 53.
+#[tactic(auto, unfolding(crate::specs::Demands::out_of_range))]
 fn is_out_of_range(found: Lookup) -> bool
     ensures { result ≡ out_of_range (lookup_of found) }
 {
-    match found {
-        Lookup::Refused(e) => {
-            let told = e.told();
-            told.number == 53
-        }
-        Lookup::Nothing => false,
-        Lookup::Found { start: _, end: _ } => false,
-    }
+    matches!(found, Lookup::Refused(e) if e.told().number == 53)
 }
 
-// Whether every number but 1 to the count is refused so in a good record.
-fn refuses_others(record: &[u8], by: By, number: usize) -> bool
+// Whether a lookup refuses this number so, unless it is one from 1 to the count.
+fn refuses_others<L: Fn(&[u8], usize) -> Lookup>(
+    record: &[u8],
+    find: L,
+    count: usize,
+    number: usize,
+) -> bool
+    requires callable { L.IsAlwaysCallable find }
+    requires parts { (from : _) × Parts (L.post find) «record».now count from }
     ensures { result ≡ true }
 {
-    match check_record(record) {
-        RecordAnswer::Refused(_) => true,
-        RecordAnswer::Good { steps } => {
-            if number == 0 {
-                return is_out_of_range(find(record, by, number));
-            }
-            if number > count_of(by, steps) {
-                return is_out_of_range(find(record, by, number));
-            }
-            true
-        }
+    if number == 0 || number > count {
+        return is_out_of_range(find(record, number));
     }
+    true
 }
 
-// Of places, all but 1 to 8.
+// Whether every place but 1 to 8 is refused so in a good record.
 pub fn refuses_other_places(record: &[u8], place: usize) -> bool
     ensures { result ≡ true }
 {
-    refuses_others(record, By::Place, place)
+    match check_record(record) {
+        RecordAnswer::Good { .. } => refuses_others(record, field, 8, place),
+        RecordAnswer::Refused(_) => true,
+    }
 }
 
-// Of step numbers, all but 1 to how many there are.
+// And every step number but 1 to how many there are.
 pub fn refuses_other_numbers(record: &[u8], number: usize) -> bool
     ensures { result ≡ true }
 {
-    refuses_others(record, By::Number, number)
+    match check_record(record) {
+        RecordAnswer::Good { steps } => refuses_others(record, step, steps, number),
+        RecordAnswer::Refused(_) => true,
+    }
 }
 
-// Whether what is found stands one behind another, from where the first begins to the end.
-fn fill(record: &[u8], by: By, steps: usize, first: usize) -> bool
-    requires { GoodRecord «record».now steps × PartsTo by «record».now 0 first }
+// Whether what is found by the numbers from 1 to the count stands one behind another, from where the first begins to the end.
+fn fill<L: Fn(&[u8], usize) -> Lookup>(record: &[u8], find: L, count: usize, first: usize) -> bool
+    requires callable { L.IsAlwaysCallable find }
+    requires parts { Parts (L.post find) «record».now count first }
     ensures { result ≡ true }
 {
-    let count = count_of(by, steps);
     let mut at = first;
-    let mut done = 0;
-    while done < count {
-        match find(record, by, done + 1) {
-            Lookup::Found { start, end } => {
-                if start != at {
-                    return false;
-                }
-                at = end;
-            }
-            Lookup::Nothing => return false,
-            Lookup::Refused(_) => return false,
+    for number in 1..=count {
+        let Lookup::Found { start, end } = find(record, number) else {
+            return false;
+        };
+        if start != at {
+            return false;
         }
-        done += 1;
+        at = end;
     }
     at == record.len()
 }
@@ -369,17 +307,11 @@ fn fill(record: &[u8], by: By, steps: usize, first: usize) -> bool
 pub fn lookups_fill(record: &[u8]) -> bool
     ensures { result ≡ true }
 {
-    match check_record(record) {
-        RecordAnswer::Refused(_) => true,
-        RecordAnswer::Good { steps } => {
-            if !fill(record, By::Place, steps, 6) {
-                return false;
-            }
-            match field(record, 8) {
-                Lookup::Found { start, end: _ } => fill(record, By::Number, steps, start + 6),
-                Lookup::Nothing => false,
-                Lookup::Refused(_) => false,
-            }
-        }
-    }
+    let RecordAnswer::Good { steps } = check_record(record) else {
+        return true;
+    };
+    let Lookup::Found { start, .. } = field(record, 8) else {
+        return false;
+    };
+    fill(record, field, 8, 6) && fill(record, step, steps, start + 6)
 }

@@ -1,6 +1,6 @@
 -- Document 01, "Answers": how the answer of a job is told to a program in C or Rust, in five numbers. Uses Base of `refusal`; Jobs of
 -- `record`. Assumes nothing.
-use Rattle.std.specs.Prelude.{◌≡◌, ℕ, List, [], ◌∷◌, ◌++◌, length, take, drop, get_or}
+use Rattle.std.specs.Prelude.{ℕ, List, [], ◌∷◌, ◌++◌, length, take, drop, get_or}
 use Rattle.refusal.specs.Base.{Answer, good, refused}
 use Rattle.record.specs.Jobs.{Found, nothing, part}
 
@@ -33,8 +33,3 @@ first_of ns = get_or ns 0 0
 -- what is left in the lent places: as many of the numbers as there are places, and behind them what was there
 unfoldable pub told : List ℕ → List ℕ → List ℕ
 told ns old = take (length old) ns ++ drop (length ns) old
-
--- the numbers are told, and the first one is the result
-pub record Tells (ns old new : List ℕ) (r : ℕ) : Type 0 where
-  pub result : r ≡ first_of ns
-  pub places : new ≡ told ns old

@@ -2,79 +2,43 @@
 // numbers, told as far as there are places for them, of which the first is the result too. include/drum.h says this to C.
 #![tactic(auto)]
 
-ghost use Rattle.std.specs.Prelude.{◌≡◌, [], ◌∷◌, length, set};
-ghost use Rattle.refusal.specs.Told.{told_of};
+ghost use Rattle.std.specs.Prelude.{◌≡◌, length};
 ghost use Rattle.tree.specs.Tree.{tree, size_of, left};
 ghost use Rattle.scenario.specs.Scenario.{scenario_of, sizes_of, output, tree_bytes, record_bytes, step_numbers};
 ghost use Rattle.record.specs.Jobs as definition;
-ghost use Rattle.record.specs.Jobs.{lookup_of};
 ghost use Rattle.check_steps.specs.CheckSteps.{check_steps};
 ghost use Rattle.lookups.specs.Lookups as lookup;
 ghost use Rattle.pair_logs.specs.PairLogs as logs;
 ghost use Rattle.pair_logs.specs.PairLogs.{pair_logs, counts_of, pair_numbers, hammer_numbers, sound_numbers};
 ghost use Rattle.share.specs.Share as shared;
 ghost use Rattle.share.specs.Share.{numbers_of};
-ghost use Rattle.drum.specs.Numbers.{numbers, of_none, of_one, of_three, of_four, of_found, first_of, told, Tells};
+ghost use Rattle.drum.specs.Numbers.{numbers, of_none, of_one, of_three, of_four, of_found, first_of, told};
 
-use check_steps::StepsAnswer;
-use lookups::TimesAnswer;
-use pair_logs::PairAnswer;
-use record::{Lookup, RecordAnswer};
-use refusal::Refusal;
-use scenario::ScenarioAnswer;
-use share::ShareAnswer;
-use tree::TreeAnswer;
+mod answers;
 
-// The first number of an answer.
-const ACCEPTED: u32 = 0;
+use answers::Answer;
+use share::Shares;
 
-const REFUSED: u32 = 1;
-
-const NOTHING: u32 = 2;
-
-// Stores a number if there is a place for it.
-fn store(answer: &mut [u64], i: usize, n: u64)
-    ensures { answer.new ≡ set answer.old i n }
+// Stores numbers as far as there are places for them.
+// By index, since what is written through `iter_mut` is not known afterwards.
+fn store(answer: &mut [u64], numbers: [u64; 5])
+    ensures { answer.new ≡ told numbers answer.old }
 {
-    if i < answer.len() {
-        answer[i] = n;
+    for (i, number) in numbers.iter().enumerate() {
+        if i < answer.len() {
+            answer[i] = *number;
+        }
     }
 }
 
-fn tell(answer: &mut [u64], state: u32, a: u64, b: u64, c: u64, d: u64) -> u32
-    ensures { Tells (state ∷ a ∷ b ∷ c ∷ d ∷ []) answer.old answer.new result }
+// Tells an answer; its first number is the result.
+fn tell<A: Answer>(outcome: A, answer: &mut [u64]) -> u32
+    ensures result { result ≡ first_of (A.as_told outcome) }
+    ensures places { answer.new ≡ told (A.as_told outcome) answer.old }
 {
-    store(answer, 0, state as u64);
-    store(answer, 1, a);
-    store(answer, 2, b);
-    store(answer, 3, c);
-    store(answer, 4, d);
-    state
-}
-
-fn tell_refusal(answer: &mut [u64], e: Refusal) -> u32
-    ensures { Tells (1 ∷ (told_of e).number ∷ (told_of e).line ∷ (told_of e).step ∷ 0 ∷ []) answer.old
-        answer.new result }
-{
-    let t = e.told();
-    tell(
-        answer,
-        REFUSED,
-        t.number as u64,
-        t.line as u64,
-        t.step as u64,
-        0,
-    )
-}
-
-fn tell_lookup(answer: &mut [u64], found: Lookup) -> u32
-    ensures { Tells (numbers of_found (lookup_of found)) answer.old answer.new result }
-{
-    match found {
-        Lookup::Found { start, end } => tell(answer, ACCEPTED, start as u64, end as u64, 0, 0),
-        Lookup::Nothing => tell(answer, NOTHING, 0, 0, 0, 0),
-        Lookup::Refused(e) => tell_refusal(answer, e),
-    }
+    let numbers = outcome.numbers();
+    store(answer, numbers);
+    numbers[0] as u32
 }
 
 // The tree of a text: its bytes.
@@ -84,10 +48,7 @@ pub fn drum_read_tree(text: &[u8], work: &mut [u8], answer: &mut [u64]) -> u32
         answer.old }
     ensures bytes { work.new ≡ left (tree (length work.old) text.now) work.old }
 {
-    match tree::read_tree(text, work) {
-        TreeAnswer::Read { bytes } => tell(answer, ACCEPTED, bytes as u64, 0, 0, 0),
-        TreeAnswer::Refused(e) => tell_refusal(answer, e),
-    }
+    tell(tree::read_tree(text, work), answer)
 }
 
 // The scenario of a text: the bytes of its tree, of its record and of its step lines, and how many steps there are.
@@ -109,22 +70,7 @@ pub fn drum_read_scenario(
     ensures numbers { lines.new ≡ output step_numbers
         (scenario_of work.old «record».old lines.old text.now) lines.old }
 {
-    match scenario::read_scenario(text, work, record, lines) {
-        ScenarioAnswer::Read {
-            tree_bytes,
-            record_bytes,
-            line_bytes,
-            steps,
-        } => tell(
-            answer,
-            ACCEPTED,
-            tree_bytes as u64,
-            record_bytes as u64,
-            line_bytes as u64,
-            steps as u64,
-        ),
-        ScenarioAnswer::Refused(e) => tell_refusal(answer, e),
-    }
+    tell(scenario::read_scenario(text, work, record, lines), answer)
 }
 
 // Whether the bytes are a record: its steps.
@@ -133,10 +79,7 @@ pub fn drum_check_record(record: &[u8], answer: &mut [u64]) -> u32
     ensures answer { answer.new ≡ told (numbers of_one (definition.check_record «record».now))
         answer.old }
 {
-    match record::check_record(record) {
-        RecordAnswer::Good { steps } => tell(answer, ACCEPTED, steps as u64, 0, 0, 0),
-        RecordAnswer::Refused(e) => tell_refusal(answer, e),
-    }
+    tell(record::check_record(record), answer)
 }
 
 // Whether the drum has the commands of a record's steps; `names` is a list of those that are not built in. A step beyond the lines has
@@ -147,10 +90,7 @@ pub fn drum_check_steps(record: &[u8], lines: &[u32], names: &[u8], answer: &mut
     ensures answer { answer.new ≡ told (numbers of_one (check_steps «record».now lines.now
         names.now)) answer.old }
 {
-    match check_steps::check_steps(record, lines, names) {
-        StepsAnswer::Good { steps } => tell(answer, ACCEPTED, steps as u64, 0, 0, 0),
-        StepsAnswer::Refused(e) => tell_refusal(answer, e),
-    }
+    tell(check_steps::check_steps(record, lines, names), answer)
 }
 
 // The field at this place, from 1 to 8: where its item begins and ends in the record.
@@ -159,7 +99,7 @@ pub fn drum_field(record: &[u8], place: usize, answer: &mut [u64]) -> u32
     ensures answer { answer.new ≡ told (numbers of_found (definition.field «record».now place))
         answer.old }
 {
-    tell_lookup(answer, record::field(record, place))
+    tell(record::field(record, place), answer)
 }
 
 // The step with this number, from 1 on: likewise.
@@ -168,7 +108,7 @@ pub fn drum_step(record: &[u8], number: usize, answer: &mut [u64]) -> u32
     ensures answer { answer.new ≡ told (numbers of_found (definition.step «record».now number))
         answer.old }
 {
-    tell_lookup(answer, record::step(record, number))
+    tell(record::step(record, number), answer)
 }
 
 // The first step with this id: likewise.
@@ -177,7 +117,7 @@ pub fn drum_step_by_id(record: &[u8], id: &[u8], answer: &mut [u64]) -> u32
     ensures answer { answer.new ≡ told (numbers of_found (lookup.step_by_id «record».now id.now))
         answer.old }
 {
-    tell_lookup(answer, lookups::step_by_id(record, id))
+    tell(lookups::step_by_id(record, id), answer)
 }
 
 // The value beside a key, in the mapping beside the command of the step with this number: likewise.
@@ -186,7 +126,7 @@ pub fn drum_value_by_key(record: &[u8], number: usize, key: &[u8], answer: &mut 
     ensures answer { answer.new ≡ told (numbers of_found (lookup.value_by_key «record».now number
         key.now)) answer.old }
 {
-    tell_lookup(answer, lookups::value_by_key(record, number, key))
+    tell(lookups::value_by_key(record, number, key), answer)
 }
 
 // How often the step with this number is repeated.
@@ -195,10 +135,7 @@ pub fn drum_times(record: &[u8], number: usize, answer: &mut [u64]) -> u32
     ensures answer { answer.new ≡ told (numbers of_one (lookup.times «record».now number))
         answer.old }
 {
-    match lookups::times(record, number) {
-        TimesAnswer::Times(n) => tell(answer, ACCEPTED, n as u64, 0, 0, 0),
-        TimesAnswer::Refused(e) => tell_refusal(answer, e),
-    }
+    tell(lookups::times(record, number), answer)
 }
 
 // What each of several drums on one supply gets in a beat, eight numbers in their order; the answer has no numbers.
@@ -208,14 +145,12 @@ pub fn drum_share(wishes: &[u32], allowed: u32, strokes: &mut [u32; 8], answer: 
         answer.old }
     ensures strokes { strokes.new ≡ numbers_of (shared.share wishes.now allowed) }
 {
-    let shares = share::share(wishes, allowed);
-    let given = shares.strokes;
-    let outcome = shares.answer;
+    let Shares {
+        answer: outcome,
+        strokes: given,
+    } = share::share(wishes, allowed);
     *strokes = given;
-    match outcome {
-        ShareAnswer::Given => tell(answer, ACCEPTED, 0, 0, 0, 0),
-        ShareAnswer::Refused(e) => tell_refusal(answer, e),
-    }
+    tell(outcome, answer)
 }
 
 // A hammer log against a microphone log: how many pairs, lone hammers and lone sounds there are.
@@ -240,12 +175,8 @@ pub fn drum_pair_logs(
         sounds.now pairs.old lone_hammers.old lone_sounds.old)
         lone_sounds.old }
 {
-    match pair_logs::pair_logs(hammers, sounds, pairs, lone_hammers, lone_sounds) {
-        PairAnswer::Paired {
-            pairs: p,
-            lone_hammers: h,
-            lone_sounds: s,
-        } => tell(answer, ACCEPTED, p as u64, h as u64, s as u64, 0),
-        PairAnswer::Refused(e) => tell_refusal(answer, e),
-    }
+    tell(
+        pair_logs::pair_logs(hammers, sounds, pairs, lone_hammers, lone_sounds),
+        answer,
+    )
 }

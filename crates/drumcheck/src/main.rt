@@ -6,96 +6,63 @@
 
 mod words;
 
-use refusal::Refusal;
-use scenario::ScenarioAnswer;
+use console::{Lent, PLACES, ROOM, TEXT, read_at_most};
+use refusal::{Refusal, Told};
+use scenario::{ScenarioAnswer, read_scenario};
 use std::env::FillError;
 use std::fs::File;
 use std::io;
-use std::io::{Read, Write};
 use std::rt::{Env, Files};
-use words::print_words;
-
-fn print(rt: &impl Print, text: &[u8]) -> io::Result<()> {
-    io::writer(rt).write_all(text)
-}
+use words::Words;
 
 fn print_refusal(rt: &impl Print, path: &str, e: Refusal) -> io::Result<()> {
-    let told = e.told();
-    let number = told.number;
-    let line = told.line;
-    let step = told.step;
+    let Told { number, line, step } = e.told();
     print!(rt; "{path}")?;
     if line > 0 {
         print!(rt; ":{line}")?;
     }
-    print!(rt; ": {number} ")?;
-    print_words(rt, number)?;
+    print!(rt; ": {number} {}", Words(e))?;
     if step > 0 {
         print!(rt; " (step {step})")?;
     }
-    print(rt, b"\n")
+    println!(rt)
 }
 
 fn print_ok(rt: &impl Print, path: &str, steps: usize) -> io::Result<()> {
-    print!(rt; "{path}: ok, {steps}")?;
-    if steps == 1 {
-        print(rt, b" step\n")
-    } else {
-        print(rt, b" steps\n")
-    }
+    let noun = if steps == 1 { "step" } else { "steps" };
+    println!(rt; "{path}: ok, {steps} {noun}")
 }
 
-fn check_text(
-    rt: &impl Print,
-    path: &str,
-    text: &[u8],
-    work: &mut [u8],
-    record: &mut [u8],
-    lines: &mut [u32],
-) -> io::Result<()> {
-    match scenario::read_scenario(text, work, record, lines) {
-        ScenarioAnswer::Read {
-            tree_bytes: _,
-            record_bytes: _,
-            line_bytes: _,
-            steps,
-        } => print_ok(rt, path, steps),
+fn check_text(rt: &impl Print, path: &str, text: &[u8], lent: &mut Lent) -> io::Result<()> {
+    match read_scenario(text, &mut lent.work, &mut lent.record, &mut lent.lines) {
+        ScenarioAnswer::Read { steps, .. } => print_ok(rt, path, steps),
         ScenarioAnswer::Refused(e) => print_refusal(rt, path, e),
     }
 }
 
-// A byte more than a text may have, so a longer file is refused too.
 fn read_file<R: Files + AllocGlobal>(rt: &R, path: &str) -> io::Result<Vec<u8>> {
-    let mut text = Vec::new(rt.alloc());
-    File::open(rt, path)?.take(65536).read_to_end(&mut text)?;
-    Ok(text)
+    read_at_most(rt.alloc(), File::open(rt, path)?, TEXT)
 }
 
-fn check_open<R: AllocGlobal + Print>(rt: &R, path: &str, text: &[u8]) -> io::Result<()> {
-    let mut work = vec![in rt.alloc(); 0u8; 65536]?;
-    let mut record = vec![in rt.alloc(); 0u8; 65536]?;
-    let mut lines = vec![in rt.alloc(); 0u32; 512]?;
-    check_text(
-        rt,
-        path,
-        text,
-        &mut work[..],
-        &mut record[..],
-        &mut lines[..],
-    )
-}
-
-fn check_file<R: Files + AllocGlobal + Print + Eprint>(rt: &R, path: &str) -> io::Result<()> {
+fn check_file<R: Files + AllocGlobal + Print + Eprint>(
+    rt: &R,
+    path: &str,
+    lent: &mut Lent,
+) -> io::Result<()> {
     match read_file(rt, path) {
-        Ok(text) => check_open(rt, path, &text[..]),
+        Ok(text) => check_text(rt, path, &text, lent),
         Err(e) => eprintln!(rt; "{path}: {e}"),
     }
 }
 
 // std opens files by names that are text.
-fn check_path<R: Files + AllocGlobal + Print + Eprint>(rt: &R, path: &[u8]) -> io::Result<()> {
+fn check_path<R: Files + AllocGlobal + Print + Eprint>(
+    rt: &R,
+    path: &[u8],
+    lent: &mut Lent,
+) -> io::Result<()> {
     match str::from_utf8(path) {
-        Ok(name) => check_file(rt, name),
+        Ok(name) => check_file(rt, name, lent),
         Err(_) => {
             let shown = String::from_utf8_lossy(rt.alloc(), path)?;
             eprintln!(rt; "{shown}: the name is not UTF-8")
@@ -103,32 +70,17 @@ fn check_path<R: Files + AllocGlobal + Print + Eprint>(rt: &R, path: &[u8]) -> i
     }
 }
 
-// Whether there was an argument at this place.
-fn check_argument<R: Files + AllocGlobal + Print + Eprint + Env>(
-    rt: &R,
-    i: usize,
-) -> io::Result<bool> {
-    let mut path = vec![in rt.alloc(); 0u8; 4096]?;
-    match rt.arg(i, &mut path[..]) {
-        Ok(length) => check_path(rt, &path[..length])?,
-        Err(FillError::TooLong) => eprintln!(rt; "drumcheck: a name that is too long")?,
-        Err(FillError::NotPresent) => return Ok(false),
-    }
-    Ok(true)
-}
-
-fn check_files<R: Files + AllocGlobal + Print + Eprint + Env>(rt: &R) -> io::Result<()> {
+fn main(rt: HostRuntime) -> io::Result<()> {
+    let mut path = [0u8; 4096];
+    let mut lent = Lent::new(rt.alloc(), ROOM, PLACES)?;
+    // Argument by argument, and not by `env::args`, whose items are text: a name that is not is told.
     for i in 1..usize::MAX {
-        if !check_argument(rt, i)? {
-            if i == 1 {
-                eprintln!(rt; "usage: drumcheck FILE..")?;
-            }
-            return Ok(());
+        match rt.arg(i, &mut path) {
+            Ok(length) => check_path(&rt, &path[..length], &mut lent)?,
+            Err(FillError::TooLong) => eprintln!(rt; "drumcheck: a name that is too long")?,
+            Err(FillError::NotPresent) if i == 1 => return eprintln!(rt; "usage: drumcheck FILE.."),
+            Err(FillError::NotPresent) => return Ok(()),
         }
     }
     Ok(())
-}
-
-fn main(rt: HostRuntime) -> io::Result<()> {
-    check_files(&rt)
 }

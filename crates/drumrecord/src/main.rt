@@ -3,53 +3,18 @@
 // a byte more than a text may have, so a longer input is refused too.
 #![tactic(auto)]
 
-use refusal::Refusal;
-use scenario::ScenarioAnswer;
+use console::{Lent, Numbers, PLACES, ROOM, TEXT, read_at_most};
+use scenario::{ScenarioAnswer, read_scenario};
 use std::io;
-use std::io::{Read, Write};
-
-fn print_refusal(rt: &impl Eprint, e: Refusal) -> io::Result<()> {
-    let told = e.told();
-    let number = told.number;
-    let line = told.line;
-    let step = told.step;
-    eprintln!(rt; "refused {number} {line} {step}")
-}
-
-fn write_record<R: Print + Eprint>(
-    rt: &R,
-    text: &[u8],
-    work: &mut [u8],
-    record: &mut [u8],
-    lines: &mut [u32],
-) -> io::Result<()> {
-    match scenario::read_scenario(text, work, record, lines) {
-        ScenarioAnswer::Read {
-            tree_bytes: _,
-            record_bytes,
-            line_bytes: _,
-            steps: _,
-        } => {
-            if record_bytes <= record.len() {
-                return io::writer(rt).write_all(&record[..record_bytes]);
-            }
-            Ok(())
-        }
-        ScenarioAnswer::Refused(e) => print_refusal(rt, e),
-    }
-}
+use std::io::Write;
 
 fn main(rt: HostRuntime) -> io::Result<()> {
-    let mut text = Vec::new(rt.alloc());
-    let mut work = vec![in rt.alloc(); 0u8; 65536]?;
-    let mut record = vec![in rt.alloc(); 0u8; 65536]?;
-    let mut lines = vec![in rt.alloc(); 0u32; 512]?;
-    rt.reader().take(65536).read_to_end(&mut text)?;
-    write_record(
-        &rt,
-        &text[..],
-        &mut work[..],
-        &mut record[..],
-        &mut lines[..],
-    )
+    let text = read_at_most(rt.alloc(), rt.reader(), TEXT)?;
+    let mut lent = Lent::new(rt.alloc(), ROOM, PLACES)?;
+    match read_scenario(&text, &mut lent.work, &mut lent.record, &mut lent.lines) {
+        ScenarioAnswer::Read { record_bytes, .. } => {
+            io::writer(&rt).write_all(&lent.record[..record_bytes])
+        }
+        ScenarioAnswer::Refused(e) => eprintln!(rt; "refused {}", Numbers(e)),
+    }
 }

@@ -1,63 +1,107 @@
-// Scalars for people: integers in decimal, texts in quotes with what a terminal would act on escaped.
-use crate::{print, print_number};
-use record::part;
-use std::io;
+// Items for people: what names them, and what is in them. Integers stand in decimal, texts in quotes with what a terminal would act on
+// escaped.
+use item::Kind;
+use std::fmt;
 
-// A byte as a wider number; the caller owes nothing for the cast.
-fn wide(b: u8) -> u64 {
-    b as u64
+const FIELDS: [&str; 8] = [
+    "name",
+    "description",
+    "tags",
+    "image",
+    "setup",
+    "defaults",
+    "fail_on",
+    "steps",
+];
+
+const DEFAULTS: [&str; 2] = ["timeout", "wall_budget"];
+
+const PARTS: [&str; 7] = [
+    "name",
+    "id",
+    "command",
+    "value",
+    "timeout",
+    "continue_on_error",
+    "expect",
+];
+
+// What names an item inside one of this kind that is no mapping, where so many stand before it.
+#[derive(Clone, Copy)]
+pub(crate) struct Name {
+    pub(crate) holder: Kind,
+    pub(crate) before: usize,
+}
+
+impl fmt::Display for Name {
+    fn fmt<W: fmt::Write>(&self, f: &mut fmt::Formatter<W>) -> fmt::Result {
+        let words: &[&str] = match self.holder {
+            Kind::Steps => return write!(f, "step {}:", self.before.saturating_add(1)),
+            Kind::Scenario => &FIELDS,
+            Kind::Defaults => &DEFAULTS,
+            Kind::Step => &PARTS,
+            _ => return write!(f, "-"),
+        };
+        match words.get(self.before) {
+            Some(word) => write!(f, "{word}:"),
+            None => Ok(()),
+        }
+    }
+}
+
+// A text of a record, which is UTF-8.
+fn text(content: &[u8]) -> &str {
+    str::from_utf8(content).unwrap_or_default()
+}
+
+// A text in quotes.
+#[derive(Clone, Copy)]
+pub(crate) struct Quoted<'a>(pub(crate) &'a [u8]);
+
+impl fmt::Display for Quoted<'_> {
+    fn fmt<W: fmt::Write>(&self, f: &mut fmt::Formatter<W>) -> fmt::Result {
+        write!(f, "\"")?;
+        for c in text(self.0).chars() {
+            match c {
+                '\n' => write!(f, "\\n")?,
+                '\t' => write!(f, "\\t")?,
+                '\r' => write!(f, "\\r")?,
+                '"' => write!(f, "\\\"")?,
+                '\\' => write!(f, "\\\\")?,
+                '\0'..' ' | '\x7f' => write!(f, "\\x{:02x}", c as u32)?,
+                _ => write!(f, "{c}")?,
+            }
+        }
+        write!(f, "\"")
+    }
 }
 
 // The two's complement of eight bytes, the lowest first.
-pub(crate) fn print_integer(rt: &impl Print, content: &[u8]) -> io::Result<()> {
-    let mut n: u64 = 0;
-    let mut i = content.len();
-    while i > 0 {
-        i -= 1;
-        n = n << 8 | wide(content[i]);
-    }
-    print(rt, b" ")?;
-    if n >> 63 == 1 {
-        print(rt, b"-")?;
-        return print_number(rt, std::num::wrapping_sub_u64(0, n));
-    }
-    print_number(rt, n)
-}
-
-fn is_plain(b: u8) -> bool {
-    if b < 32 {
-        return false;
-    }
-    if b == 127 {
-        return false;
-    }
-    if b == b'"' {
-        return false;
-    }
-    b != b'\\'
-}
-
-fn print_escape(rt: &impl Print, b: u8) -> io::Result<()> {
-    match b {
-        b'\n' => print(rt, b"\\n"),
-        b'\t' => print(rt, b"\\t"),
-        b'\r' => print(rt, b"\\r"),
-        b'"' => print(rt, b"\\\""),
-        b'\\' => print(rt, b"\\\\"),
-        _ => print!(rt; "\\x{b:02x}"),
+fn integer(content: &[u8]) -> i64 {
+    match content.first_chunk() {
+        Some(bytes) => i64::from_le_bytes(*bytes),
+        None => 0,
     }
 }
 
-pub(crate) fn print_text(rt: &impl Print, text: &[u8]) -> io::Result<()> {
-    let mut run = 0;
-    print(rt, b"\"")?;
-    for i in 0..text.len() {
-        if !is_plain(text[i]) {
-            print(rt, part(text, run, i))?;
-            print_escape(rt, text[i])?;
-            run = i + 1;
+// What stands behind the name: a scalar, or of what holds items only whether it is empty.
+#[derive(Clone, Copy)]
+pub(crate) struct Value<'a> {
+    pub(crate) kind: Kind,
+    pub(crate) content: &'a [u8],
+}
+
+impl fmt::Display for Value<'_> {
+    fn fmt<W: fmt::Write>(&self, f: &mut fmt::Formatter<W>) -> fmt::Result {
+        match self.kind {
+            Kind::Null => write!(f, " null"),
+            Kind::Bool => write!(f, " {}", matches!(self.content, [1, ..])),
+            Kind::Int => write!(f, " {}", integer(self.content)),
+            Kind::Str => write!(f, " {}", Quoted(self.content)),
+            _ if !self.content.is_empty() => Ok(()),
+            Kind::Seq => write!(f, " []"),
+            Kind::Map => write!(f, " {{}}"),
+            _ => write!(f, " none"),
         }
     }
-    print(rt, part(text, run, text.len()))?;
-    print(rt, b"\"")
 }

@@ -5,12 +5,14 @@ use Prim.Native.Nat.{ℕ, ◌+◌, ◌-◌, ◌≤◌, ◌<◌, ◌^◌}
 use native.Mathlib.Omega.{arith}
 use mathlib.Core.List.{List}
 use mathlib.Core.Bool.{Bool, true, false, ◌||◌, false≢true}
-use lib.ListN.{take, drop, get_or}
+use lib.ListN.{take, drop}
 use Rattle.refusal.specs.Base.{same}
 use Rattle.item.specs.Tree.{Yaml, Entries, done, pair, has_key}
 use Rattle.item.proofs.Same.{same_refl, same-eq}
+use Rattle.entries.specs.declared.Pair.{Pair}
 use Rattle.entries.specs.Entries.{Lies, key_twice}
-use Rattle.entries.specs.Contract.{key_of, Held, Gap, Inserted, LeftOver}
+use Rattle.entries.specs.declared.sorted.KeyPlace.{KeyPlace}
+use Rattle.entries.specs.Contract.{key_of, key_in, Held, Gap, Inserted, LeftOver}
 use Rattle.entries.proofs.Walking.{Turn, no_more}
 use Rattle.entries.proofs.Twice.{no, either, or_left, or_right}
 use Rattle.entries.proofs.Runs.{each_on, held-here, held_on, not-held}
@@ -51,7 +53,7 @@ swap false false c = refl
 -- ---- the walk
 
 -- the keys of the run are those of the chunk; the entries behind it, and those of them that are left to look up, decide as all do
-pub record Chunked (s run : List ℕ) (n to behind at : ℕ) (es : Entries) : Type 0 where
+pub record Chunked (s : List ℕ) (run : List KeyPlace) (n to behind at : ℕ) (es : Entries) : Type 0 where
   pub chunk : Entries
   pub others : Entries
   pub rest : Entries
@@ -60,9 +62,9 @@ pub record Chunked (s run : List ℕ) (n to behind at : ℕ) (es : Entries) : Ty
   pub whole : key_twice es ≡ meets chunk rest || key_twice others
   pub filling : n < 2 ^ 11 → others ≡ rest
   pub held : (k : List ℕ) → has_key k chunk ≡ true → Held s run n k
-  pub kept : (i : ℕ) → i < n → has_key (key_of s (get_or run i 0)) chunk ≡ true
+  pub kept : (i : ℕ) → i < n → has_key (key_in s run i) chunk ≡ true
 
-pub chunked-none : {s : List ℕ} {from to : ℕ} (run : List ℕ) (es : Entries) → Lies s from to es → Chunked s run 0 to from from es
+pub chunked-none : {s : List ℕ} {from to : ℕ} (run : List KeyPlace) (es : Entries) → Lies s from to es → Chunked s run 0 to from from es
 unfolding has_key
 chunked-none run es h = record {
   chunk = done;
@@ -76,7 +78,7 @@ chunked-none run es h = record {
   kept = λ i l. absurd (omega arith);
 }
 
-module _ {s run : List ℕ} {n to behind at : ℕ} {es : Entries} (w : Chunked s run n to behind at es) where
+module _ {s : List ℕ} {run : List KeyPlace} {n to behind at : ℕ} {es : Entries} (w : Chunked s run n to behind at es) where
   pub chunked-all : to ≤ at → LeftOver s to behind es
   chunked-all h = record {
     rest = w.others;
@@ -84,9 +86,9 @@ module _ {s run : List ℕ} {n to behind at : ℕ} {es : Entries} (w : Chunked s
     whole = w.whole ∙ ap (λ (e : Entries). meets w.chunk e || key_twice w.others) (no_more w.rest h w.lies) ∙ ap (λ (b : Bool). b || key_twice w.others) (meets-none w.chunk);
   }
 
-  module _ {start stop kind next : ℕ} (t : Turn s at to w.rest start stop kind next) where
+  module _ {p : Pair} (t : Turn s at to w.rest p) where
     abbrev key : List ℕ
-    key = take (stop - start) (drop start s)
+    key = take (p.end - p.start) (drop p.start s)
 
     abbrev more : Entries
     more = t.entry.others
@@ -99,11 +101,11 @@ module _ {s run : List ℕ} {n to behind at : ℕ} {es : Entries} (w : Chunked s
         let e : has_key key w.chunk ≡ true = subst (λ (k : List ℕ). has_key k w.chunk ≡ true) h.is (w.kept h.index h.below) in
         opened ∙ ap (λ (b : Bool). b || key_twice w.others) (meets-there key t.entry.v more w.chunk e)
 
-    module _ {place : ℕ} (g : Gap s run n key place) where
+    module _ {index : ℕ} (g : Gap s run n key index) where
       passed : key_twice es ≡ meets w.chunk more || key_twice w.others
       passed = opened ∙ ap (λ (b : Bool). b || key_twice w.others) (meets_on key t.entry.v more w.chunk (λ h. not-held g (w.held key h)))
 
-      pub chunked-past : 2 ^ 11 ≤ n → Chunked s run n to behind next es
+      pub chunked-past : 2 ^ 11 ≤ n → Chunked s run n to behind p.next es
       chunked-past h = record {
         chunk = w.chunk;
         others = w.others;
@@ -116,9 +118,9 @@ module _ {s run : List ℕ} {n to behind at : ℕ} {es : Entries} (w : Chunked s
         kept = w.kept;
       }
 
-      pub chunked-on : {new : List ℕ} {word : ℕ} → n < 2 ^ 11 → Inserted run new n place word → key_of s word ≡ key → Chunked s new (n + 1) to next next es
+      pub chunked-on : {new : List KeyPlace} {place : KeyPlace} → n < 2 ^ 11 → Inserted run new n index place → key_of s place ≡ key → Chunked s new (n + 1) to p.next p.next es
       unfolding has_key key_twice
-      chunked-on {new} {word} h p e = record {
+      chunked-on {new} {place} h p e = record {
         chunk = pair key t.entry.v w.chunk;
         others = more;
         rest = more;
@@ -130,7 +132,7 @@ module _ {s run : List ℕ} {n to behind at : ℕ} {es : Entries} (w : Chunked s
         filling = λ _. refl;
         held = λ k i. ⊎_elim (λ q. subst (Held s new (n + 1)) (e ∙ same-eq key k q) (held-here p g.within s))
             (λ q. held_on p g.within (w.held k q)) (either (same key k) (has_key k w.chunk) i);
-        kept = each_on p g.within (λ (x : ℕ). has_key (key_of s x) (pair key t.entry.v w.chunk) ≡ true)
-            (or_left (same key (key_of s word)) _ (rw e (same_refl key)))
-            (λ i l. or_right (same key (key_of s (get_or run i 0))) _ (w.kept i l));
+        kept = each_on p g.within (λ (x : KeyPlace). has_key (key_of s x) (pair key t.entry.v w.chunk) ≡ true)
+            (or_left (same key (key_of s place)) _ (rw e (same_refl key)))
+            (λ i l. or_right (same key (key_in s run i)) _ (w.kept i l));
       }

@@ -4,6 +4,5 @@ pub mod Walking
 pub mod Counting
 pub mod Bits
 pub mod Twice
-pub mod Order
 pub mod Runs
 pub mod Chunks

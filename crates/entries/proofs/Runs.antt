@@ -1,132 +1,103 @@
--- Runs of keys in their order: the search for a key, and a key put in at its place. Assumes nothing.
-use mathlib.Core.Path.{◌≡◌, refl, ap, ◌∙◌, subst}
+-- Runs of keys in their order: the search for a key, and a key put in at its index. Assumes nothing.
+use mathlib.Core.Path.{◌≡◌, refl, sym, ap, ◌∙◌, subst}
 use mathlib.Core.Logic.{⊎_elim}
-use Prim.Native.Nat.{ℕ, ◌+◌, ◌*◌, ◌-◌, ◌/◌, ◌%◌, ◌^◌, ◌≤◌, ◌<◌}
+use Prim.Native.Nat.{ℕ, ◌+◌, ◌-◌, ◌^◌, ◌≤◌, ◌<◌}
 use native.Mathlib.Omega.{arith}
 use mathlib.Core.List.{List}
+use borrow.Author.Tests.{le-leb}
 use lib.ListN.{length, take, drop, get_or, set, length-set}
 use lib.Seq.{get_or-set_same, get_or-set_other}
+use Rattle.std.proofs.Common.{Ordering, Less, Equal, Greater}
+use Rattle.std.specs.Ordering.{ordering_reverse, ordering_then, nat_cmp, is_eq, is_ne, is_lt}
+use Rattle.std.specs.FinMap.{slice_cmp-IsAntisymmetric, nat_cmp-IsAntisymmetric}
+use Rattle.std.specs.List.Sorted.{IsSortedBy}
+use Rattle.std.proofs.lemmas.List.{get_or-take, get_or_default, length-take-le}
+use Rattle.std.proofs.lemmas.List.Sorted.{searchable_from_sorted}
+use mathlib.Core.Bool.{true, false, false≢true}
+use Rattle.std.specs.Cmp.{IsTotalOrder, nat_cmp_total, on_total, then_total}
+use Rattle.std.specs.Cmp.Lexicographic.{slice_cmp, nat_list_cmp_total}
+use Rattle.std.specs.Prelude.{Result, Ok, Err}
+use Rattle.std.specs.List.Sorted.{IsSearchInRange, IsBinarySearchResult}
 use Rattle.refusal.proofs.Tools.{split}
-use Rattle.entries.specs.Contract.{Below, key_of, WordInside, Run, Held, Gap, Inserted}
-use Rattle.entries.proofs.Order.{below_self, below-through}
+use Rattle.entries.specs.declared.sorted.KeyPlace.{KeyPlace}
+use Rattle.entries.specs.Contract.{key_cmp, key_of, blank, key_in, Run, Held, Gap, Located, Inserted}
 
--- ---- words moved up
+-- ---- the order
 
-pub record Moved (old new : List ℕ) (n place : ℕ) : Type 0 where
-  pub size : length new ≡ length old
-  pub before : (i : ℕ) → i < place → get_or new i 0 ≡ get_or old i 0
-  pub behind : (i : ℕ) → place ≤ i → i < n → get_or new (i + 1) 0 ≡ get_or old i 0
+pub key-order : IsTotalOrder key_cmp
+key-order = then_total (on_total length nat_cmp_total) nat_list_cmp_total
 
-pub moved_none : (old : List ℕ) (n : ℕ) → Moved old old n n
-moved_none old n = record { size = refl; before = λ i h. refl; behind = λ i h g. absurd (omega arith) }
+pub below_self : (a : List ℕ) → key_cmp a a ≡ Less → ⊥
+below_self a h = absurd (let z : ◌≡◌ {A = Ordering} Less Greater = sym h ∙ key-order.antisymm a a ∙ ap ordering_reverse h in let y : ◌≡◌ {A = ℕ} 0 1 = cc z in omega arith)
 
-module _ {old new : List ℕ} {n place : ℕ} (m : Moved old new n place) (fits : place < length new) where
-  abbrev word : ℕ
-  word = get_or new (place - 1) 0
+-- the lengths decide, or all hangs on the bytes
+pub then-first : (o p : Ordering) → is_ne o ≡ true → o ≡ ordering_then o p
+then-first Less p e = refl
+then-first Equal p e = absurd (false≢true e)
+then-first Greater p e = refl
 
-  pub moved_on : 0 < place → Moved old (set new place word) n (place - 1)
-  moved_on some = record {
-    size = length-set new place word ∙ m.size;
-    before = λ i h. get_or-set_other new place i word 0 (λ e. omega arith) ∙ m.before i (omega arith);
-    behind = λ i h g. ⊎_elim
-        (λ l. let e : i + 1 ≡ place = omega arith in
-        let p : place - 1 ≡ i = omega arith in
-        ap (λ (j : ℕ). get_or (set new place word) j 0) e ∙ get_or-set_same new place word 0 fits ∙ ap (λ (j : ℕ). get_or new j 0) p ∙ m.before i l)
-        (λ l. get_or-set_other new place (i + 1) word 0 (λ e. omega arith) ∙ m.behind i l g)
-        (split i place);
-  }
-
-  pub inserted : (w : ℕ) → Inserted old (set new place w) n place w
-  inserted w = record {
-    size = length-set new place w ∙ m.size;
-    before = λ i h. get_or-set_other new place i w 0 (λ e. omega arith) ∙ m.before i h;
-    here = get_or-set_same new place w 0 fits;
-    behind = λ i h g. get_or-set_other new place (i + 1) w 0 (λ e. omega arith) ∙ m.behind i h g;
-  }
-
--- ---- the search for a key
-
--- the keys before and behind those that are left
-pub record Between (s run : List ℕ) (n : ℕ) (key : List ℕ) (low high : ℕ) : Type 0 where
-  pub order : low ≤ high
-  pub within : high ≤ n
-  pub before : (i : ℕ) → i < low → Below (key_of s (get_or run i 0)) key
-  pub behind : (i : ℕ) → high ≤ i → i < n → Below key (key_of s (get_or run i 0))
-
-pub between-all : (s run : List ℕ) (n : ℕ) (key : List ℕ) → Between s run n key 0 n
-between-all s run n key = record { order = omega arith; within = omega arith; before = λ i h. absurd (omega arith); behind = λ i h g. absurd (omega arith) }
-
-module _ {s run : List ℕ} {n : ℕ} {key : List ℕ} {low high : ℕ} (b : Between s run n key low high) where
-  pub gap : high ≤ low → Gap s run n key low
-  gap h = record {
-    within = omega (arith, b.order, b.within);
-    before = b.before;
-    behind = λ i k g. b.behind i (omega arith) g;
-  }
-
-  module _ (r : Run s run n) (i : ℕ) (after : low ≤ i) (until : i < high) where
-    pub between-right : Below (key_of s (get_or run i 0)) key → Between s run n key (i + 1) high
-    between-right l = record { order = omega arith; within = b.within; before = go; behind = b.behind }
-      where
-        go : (j : ℕ) → j < i + 1 → Below (key_of s (get_or run j 0)) key
-        go j h = ⊎_elim (λ k. below-through (r.rising j i k (omega (arith, b.within))) l) (λ k. let e : j ≡ i = omega arith in rw e l) (split j i)
-
-    pub between_left : Below key (key_of s (get_or run i 0)) → Between s run n key low i
-    between_left l = record { order = after; within = omega (arith, b.within); before = b.before; behind = go }
-      where
-        go : (j : ℕ) → i ≤ j → j < n → Below key (key_of s (get_or run j 0))
-        go j h g = ⊎_elim (λ k. below-through l (r.rising i j k g)) (λ k. let e : j ≡ i = omega arith in rw e l) (split i j)
+pub then-second : (o p : Ordering) → is_ne o ≡ false → p ≡ ordering_then o p
+then-second Less p e = absurd (false≢true (sym e))
+then-second Equal p e = refl
+then-second Greater p e = absurd (false≢true (sym e))
 
 -- ---- a key put in
 
-pub word-key : (s : List ℕ) (start stop : ℕ) → stop < 2 ^ 21 → key_of s (start * 2 ^ 21 + stop) ≡ take (stop - start) (drop start s)
+-- places moved up
+pub record Moved (old new : List KeyPlace) (n index : ℕ) : Type 0 where
+  pub size : length new ≡ length old
+  pub before : (i : ℕ) → i < index → get_or new i blank ≡ get_or old i blank
+  pub behind : (i : ℕ) → index ≤ i → i < n → get_or new (i + 1) blank ≡ get_or old i blank
+
+pub inserted : {old new : List KeyPlace} {n index : ℕ} (m : Moved old new n index) → index < length new → (p : KeyPlace) → Inserted old (set new index p) n index p
+inserted {new = new} {index = index} m fits p = record {
+  size = length-set new index p ∙ m.size;
+  before = λ i h. get_or-set_other new index i p blank (λ e. omega arith) ∙ m.before i h;
+  here = get_or-set_same new index p blank fits;
+  behind = λ i h g. get_or-set_other new index (i + 1) p blank (λ e. omega arith) ∙ m.behind i h g;
+}
+
+pub place-key : (s : List ℕ) (place : KeyPlace) → place.end ≤ length s → key_of s place ≡ take (place.end - place.start) (drop place.start s)
 unfolding key_of
-word-key s start stop h =
-    let a : (start * 2 ^ 21 + stop) / 2 ^ 21 ≡ start = omega arith in
-    let b : (start * 2 ^ 21 + stop) % 2 ^ 21 ≡ stop = omega arith in
-    rw (a, b)
+place-key s place h = rw (le-leb place.end (length s) h)
 
-pub word-inside : (s : List ℕ) (start stop : ℕ) → stop < 2 ^ 21 → start ≤ stop → stop ≤ length s → WordInside s (start * 2 ^ 21 + stop)
-word-inside s start stop h g l = record { order = omega arith; within = omega arith }
-
-module _ {old new : List ℕ} {n place word : ℕ} (p : Inserted old new n place word) (fits : place ≤ n) where
-  -- where a word was before
+module _ {old new : List KeyPlace} {n index : ℕ} {place : KeyPlace} (p : Inserted old new n index place) (fits : index ≤ n) where
+  -- where a place was before
   data Was (i : ℕ) : Type 0 where
-    before : i < place → get_or new i 0 ≡ get_or old i 0 → Was i
-    here : i ≡ place → get_or new i 0 ≡ word → Was i
-    behind : (j : ℕ) → i ≡ j + 1 → place ≤ j → j < n → get_or new i 0 ≡ get_or old j 0 → Was i
+    before : i < index → get_or new i blank ≡ get_or old i blank → Was i
+    here : i ≡ index → get_or new i blank ≡ place → Was i
+    behind : (j : ℕ) → i ≡ j + 1 → index ≤ j → j < n → get_or new i blank ≡ get_or old j blank → Was i
 
   was : (i : ℕ) → i < n + 1 → Was i
   was i h = ⊎_elim (λ l. before l (p.before i l))
-      (λ l. ⊎_elim (λ k. let e : i ≡ i - 1 + 1 = omega arith in behind (i - 1) e (omega arith) (omega arith) (ap (λ (j : ℕ). get_or new j 0) e ∙ p.behind (i - 1) (omega arith) (omega arith)))
-      (λ k. let e : i ≡ place = omega arith in here e (rw e p.here)) (split place i)) (split i place)
+      (λ l. ⊎_elim (λ k. let e : i ≡ i - 1 + 1 = omega arith in behind (i - 1) e (omega arith) (omega arith) (ap (λ (j : ℕ). get_or new j blank) e ∙ p.behind (i - 1) (omega arith) (omega arith)))
+      (λ k. let e : i ≡ index = omega arith in here e (rw e p.here)) (split index i)) (split i index)
 
-  pub each_on : (P : ℕ → Type 0) → P word → ((i : ℕ) → i < n → P (get_or old i 0)) → (i : ℕ) → i < n + 1 → P (get_or new i 0)
+  pub each_on : (P : KeyPlace → Type 0) → P place → ((i : ℕ) → i < n → P (get_or old i blank)) → (i : ℕ) → i < n + 1 → P (get_or new i blank)
   each_on P w o i h = go (was i h)
     where
-      go : Was i → P (get_or new i 0)
+      go : Was i → P (get_or new i blank)
       go (before l e) = rw e (o i (omega arith))
       go (here l e) = rw e w
       go (behind j l g k e) = rw e (o j k)
 
-  pub held-here : (s : List ℕ) → Held s new (n + 1) (key_of s word)
-  held-here s = record { index = place; below = omega arith; is = ap (key_of s) p.here }
+  pub held-here : (s : List ℕ) → Held s new (n + 1) (key_of s place)
+  held-here s = record { index = index; below = omega arith; is = ap (key_of s) p.here }
 
   pub held_on : {s key : List ℕ} → Held s old n key → Held s new (n + 1) key
   held_on {s} h = ⊎_elim
       (λ l. record { index = h.index; below = omega (arith, h.below); is = ap (key_of s) (p.before h.index l) ∙ h.is })
       (λ l. record { index = h.index + 1; below = omega (arith, h.below); is = ap (key_of s) (p.behind h.index l h.below) ∙ h.is })
-      (split h.index place)
+      (split h.index index)
 
-  pub run_on : {s : List ℕ} → Run s old n → Gap s old n (key_of s word) place → WordInside s word → n < 2 ^ 11 → Run s new (n + 1)
-  run_on {s} r g w m = record {
+  pub run_on : {s : List ℕ} → Run s old n → Gap s old n (key_of s place) index → n < 2 ^ 11 → Run s new (n + 1)
+  run_on {s} r g m = record {
     size = p.size ∙ r.size;
     few = omega arith;
-    inside = each_on (WordInside s) w r.inside;
     rising = λ i j l h. go i j l (was i (omega arith)) (was j h);
   }
     where
-      go : (i j : ℕ) → i < j → Was i → Was j → Below (key_of s (get_or new i 0)) (key_of s (get_or new j 0))
+      go : (i j : ℕ) → i < j → Was i → Was j → key_cmp (key_in s new i) (key_in s new j) ≡ Less
       go i j l (before a e) (before b f) = rw (e, f) (r.rising i j l (omega arith))
       go i j l (before a e) (here b f) = rw (e, f) (g.before i a)
       go i j l (before a e) (behind m b c d f) = rw (e, f) (r.rising i m (omega arith) d)
@@ -138,6 +109,45 @@ module _ {old new : List ℕ} {n place word : ℕ} (p : Inserted old new n place
       go i j l (behind k a o u e) (behind m b c d f) = rw (e, f) (r.rising k m (omega arith) d)
 
 -- a key that has a place is none of them
-pub not-held : {s run : List ℕ} {n : ℕ} {key : List ℕ} {place : ℕ} → Gap s run n key place → Held s run n key → ⊥
-not-held {key = key} {place = place} g h = ⊎_elim (λ l. below_self (subst (λ (k : List ℕ). Below k key) h.is (g.before h.index l)))
-    (λ l. below_self (subst (Below key) h.is (g.behind h.index l h.below))) (split h.index place)
+pub not-held : {s : List ℕ} {run : List KeyPlace} {n : ℕ} {key : List ℕ} {index : ℕ} → Gap s run n key index → Held s run n key → ⊥
+not-held {key = key} {index = index} g h = ⊎_elim (λ l. below_self key (subst (λ (k : List ℕ). key_cmp k key ≡ Less) h.is (g.before h.index l)))
+    (λ l. below_self key (subst (λ (k : List ℕ). key_cmp key k ≡ Less) h.is (g.behind h.index l h.below))) (split h.index index)
+
+-- ---- the search for a key
+
+then-equal : (o p : Ordering) → ordering_then o p ≡ Equal → p ≡ Equal
+then-equal Less p e = absurd (false≢true (ap is_eq e))
+then-equal Equal p e = e
+then-equal Greater p e = absurd (false≢true (ap is_eq e))
+
+key-same : (a b : List ℕ) → key_cmp a b ≡ Equal → a ≡ b
+key-same a b e = slice_cmp-IsAntisymmetric nat_cmp-IsAntisymmetric a b (then-equal (nat_cmp (length a) (length b)) (slice_cmp nat_cmp a b) e)
+
+above : (a b : List ℕ) → key_cmp a b ≡ Greater → key_cmp b a ≡ Less
+above a b e = key-order.antisymm b a ∙ ap ordering_reverse e
+
+module _ {s : List ℕ} {run : List KeyPlace} {n : ℕ} (r : Run s run n) (key : List ℕ) where
+  many : length (take n run) ≡ n
+  many = length-take-le n run (omega (arith, r.size, r.few))
+
+  at : (i : ℕ) → i < n → get_or (take n run) i blank ≡ get_or run i blank
+  at i h = get_or-take n run i blank h
+
+  sorted : IsSortedBy (λ a b. is_lt (key_cmp (key_of s a) (key_of s b))) (take n run)
+  sorted k d low high =
+      let h : k + 1 < n = omega (arith, many) in
+      let first : get_or (take n run) k d ≡ get_or run k blank = get_or_default (take n run) k d blank (omega arith) ∙ at k (omega arith) in
+      let second : get_or (take n run) (k + 1) d ≡ get_or run (k + 1) blank = get_or_default (take n run) (k + 1) d blank high ∙ at (k + 1) h in
+      rw (first, second) (ap is_lt (key-order.antisymm (key_in s run (k + 1)) (key_in s run k) ∙ ap ordering_reverse (r.rising k (k + 1) (omega arith) h)))
+
+  pub searched : (found : Result ℕ ℕ) → IsSearchInRange found (length (take n run)) → IsBinarySearchResult (λ p. key_cmp (key_of s p) key) (take n run) found → Located s run n key found
+  searched (Ok index) h g =
+      let l : index < n = omega (arith, h, many) in
+      record { index = index; below = l; is = key-same _ key (subst (λ (p : KeyPlace). key_cmp (key_of s p) key ≡ Equal) (at index l) (g blank)) }
+  searched (Err index) h g =
+      let p = g (searchable_from_sorted key-order (key_of s) (take n run) key sorted) in
+      record {
+        within = omega (arith, h, many);
+        before = λ i l. subst (λ (p : KeyPlace). key_cmp (key_of s p) key ≡ Less) (at i (omega (arith, h, many))) (p.0 i blank (omega arith) l);
+        behind = λ i l m. above _ key (subst (λ (p : KeyPlace). key_cmp (key_of s p) key ≡ Greater) (at i m) (p.1 i blank l (omega (arith, many))));
+      }

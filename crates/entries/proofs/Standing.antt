@@ -10,7 +10,8 @@ use Rattle.item.specs.Encode.{head, item, encode, kind_of}
 use Rattle.item.proofs.Size.{head-length, item-length}
 use Rattle.item.specs.Places.{header_at}
 use Rattle.item.proofs.HeaderPlaces.{item-at}
-use Rattle.item.specs.declared.Header.TheVariants.{Item}
+use Rattle.item.specs.declared.Item.{Item}
+use Rattle.std.specs.Prelude.{Ok}
 use Rattle.entries.specs.Entries.{Stands, content}
 
 -- ---- parts
@@ -46,7 +47,7 @@ stands-byte {s} {p} {n} h =
 
 -- ---- items
 
-pub item-head : {s : List ℕ} {p : ℕ} (kind : ℕ) (c : List ℕ) → kind < 256 ^ 2 → length s ≤ 2 ^ 20 → Stands s p (item kind c) → header_at s p ≡ Item kind (p + 6) (p + 6 + length c)
+pub item-head : {s : List ℕ} {p : ℕ} (kind : ℕ) (c : List ℕ) → kind < 256 ^ 2 → length s ≤ 2 ^ 20 → Stands s p (item kind c) → header_at s p ≡ Ok (record { kind = kind; from = p + 6; to = p + 6 + length c })
 item-head {s} {p} kind c small w st = item-at s p kind c st.rest small (omega (arith, st.within, item-length kind c)) (omega (arith, st.within)) st.here
 
 pub item-content : {s : List ℕ} {p : ℕ} (kind : ℕ) (c : List ℕ) → Stands s p (item kind c) → Stands s (p + 6) c
@@ -76,10 +77,10 @@ kind-small (dict es) = omega arith
 pub value-size : (v : Yaml) → length (encode v) ≡ 6 + length (content v)
 value-size v = ap length (value-item v) ∙ item-length (kind_of v) (content v)
 
-pub value-head : {s : List ℕ} {p : ℕ} (v : Yaml) → length s ≤ 2 ^ 20 → Stands s p (encode v) → header_at s p ≡ Item (kind_of v) (p + 6) (p + length (encode v))
+pub value-head : {s : List ℕ} {p : ℕ} (v : Yaml) → length s ≤ 2 ^ 20 → Stands s p (encode v) → header_at s p ≡ Ok (record { kind = kind_of v; from = p + 6; to = p + length (encode v) })
 value-head {s} {p} v w st =
     let n : p + 6 + length (content v) ≡ p + length (encode v) = omega (arith, value-size v) in
-    item-head (kind_of v) (content v) (kind-small v) w (stands-is (value-item v) st) ∙ ap (Item (kind_of v) (p + 6)) n
+    item-head (kind_of v) (content v) (kind-small v) w (stands-is (value-item v) st) ∙ ap (λ (i : ℕ). Ok (record { kind = kind_of v; from = p + 6; to = i })) n
 
 -- a value, by what the header at its place says
 pub record Valued (s : List ℕ) (p : ℕ) (v : Yaml) (kind from to : ℕ) : Type 0 where
@@ -90,17 +91,17 @@ pub record Valued (s : List ℕ) (p : ℕ) (v : Yaml) (kind from to : ℕ) : Typ
   pub ends : to ≡ from + length (content v)
   pub part_is : take (to - from) (drop from s) ≡ content v
 
-pub valued : {s : List ℕ} {p kind from to : ℕ} → Item kind from to ≡ header_at s p → (v : Yaml) → length s ≤ 2 ^ 20 → Stands s p (encode v) → Valued s p v kind from to
-valued {s} {p} {kind} {from} {to} h v w st =
-    let e : Item kind from to ≡ Item (kind_of v) (p + 6) (p + length (encode v)) = h ∙ value-head v w st in
-    let a : from ≡ p + 6 = cc e in
-    let b : to ≡ p + length (encode v) = cc e in
-    let i : Stands s from (content v) = stands_at (sym a) (item-content (kind_of v) (content v) (stands-is (value-item v) st)) in
+pub valued : {s : List ℕ} {p : ℕ} {item : Item} → Ok item ≡ header_at s p → (v : Yaml) → length s ≤ 2 ^ 20 → Stands s p (encode v) → Valued s p v item.kind item.from item.to
+valued {s} {p} {item} h v w st =
+    let e : Ok item ≡ Ok (record { kind = kind_of v; from = p + 6; to = p + length (encode v) }) = h ∙ value-head v w st in
+    let a : item.from ≡ p + 6 = cc e in
+    let b : item.to ≡ p + length (encode v) = cc e in
+    let i : Stands s item.from (content v) = stands_at (sym a) (item-content (kind_of v) (content v) (stands-is (value-item v) st)) in
     record {
       kind_is = cc e;
       start = a;
       end = b;
       inside = i;
       ends = omega (arith, a, b, value-size v);
-      part_is = stands-part i (to - from) (omega (arith, a, b, value-size v));
+      part_is = stands-part i (item.to - item.from) (omega (arith, a, b, value-size v));
     }

@@ -17,6 +17,7 @@ use Rattle.item.specs.Tree.{Yaml, Entries, done, pair, add, has_key}
 use Rattle.item.specs.Encode.{item, encode}
 use Rattle.item.proofs.Exact.{and_left, and_right}
 use Rattle.item.proofs.Same.{same_refl, same-eq}
+use Rattle.entries.specs.declared.Pair.{Pair}
 use Rattle.entries.specs.Entries.{Stands, Lies, key_twice}
 use Rattle.entries.specs.Contract.{hash_from, hash_of, Has, twice_in, of_class, LeftOver}
 use Rattle.entries.proofs.Standing.{stands-left, stands-is, stands_at}
@@ -158,7 +159,7 @@ module _ {s : List ℕ} {to at : ℕ} {es : Entries} (w : LeftOver s to at es) w
   unfolding key_twice
   judged-all h = sym (w.whole ∙ ap key_twice (no_more w.rest h w.lies))
 
-  module _ {start stop kind next : ℕ} (t : Turn s at to w.rest start stop kind next) where
+  module _ {p : Pair} (t : Turn s at to w.rest p) where
     opened : {b : Bool} → has_key t.entry.k t.entry.others ≡ b → key_twice es ≡ b || key_twice t.entry.others
     unfolding key_twice
     opened e = w.whole ∙ ap key_twice t.entry.is ∙ ap (λ (b : Bool). b || key_twice t.entry.others) e
@@ -166,7 +167,7 @@ module _ {s : List ℕ} {to at : ℕ} {es : Entries} (w : LeftOver s to at es) w
     pub judged-again : has_key t.entry.k t.entry.others ≡ true → true ≡ key_twice es
     judged-again e = sym (opened e)
 
-    pub judged-on : has_key t.entry.k t.entry.others ≡ false → LeftOver s to next es
+    pub judged-on : has_key t.entry.k t.entry.others ≡ false → LeftOver s to p.next es
     judged-on e = record { rest = t.entry.others; lies = t.behind; whole = opened e }
 
 -- ---- the walk
@@ -204,14 +205,14 @@ module _ {s : List ℕ} {from to : ℕ} {p : List ℕ → Bool} {es : Entries} {
   pub passed-all : to ≤ at → twice_in p es ≡ false
   passed-all h = ap (twice_in p) (w.whole ∙ ap (join w.front) (no_more w.rest h w.behind) ∙ join-done w.front) ∙ w.fresh
 
-  module _ {start stop kind next : ℕ} (t : Turn s at to w.rest start stop kind next) where
+  module _ {entry : Pair} (t : Turn s at to w.rest entry) where
     abbrev key : List ℕ
     key = t.entry.k
 
     pub passed-again : p key ≡ true → has_key key w.front ≡ true → twice_in p es ≡ true
     passed-again e h = ap (twice_in p) (w.whole ∙ ap (join w.front) t.entry.is) ∙ twice-join p w.front key t.entry.v t.entry.others e h
 
-    lies-add : Lies s from next (add w.front key t.entry.v)
+    lies-add : Lies s from entry.next (add w.front key t.entry.v)
     unfolding encode
     lies-add =
         let one : List ℕ = item 3 key ++ encode t.entry.v in
@@ -222,7 +223,7 @@ module _ {s : List ℕ} {from to : ℕ} {p : List ℕ → Bool} {es : Entries} {
         = stands_at w.before.ends (stands-left one (encode t.entry.others) (stands-is (sym (append_assoc (item 3 key) (encode t.entry.v) (encode t.entry.others))) t.entry.whole)) in
         record { stands = stands-is (sym (add-bytes w.front key t.entry.v)) (stands-join (encode w.front) one w.before.stands here); ends = omega (arith, w.before.ends, w.behind.ends, t.behind.ends, size, grown) }
 
-    pub passed_on : (new : List ℕ) → (p key ≡ true → has_key key w.front ≡ true → ⊥) → (p key ≡ true → Has new (hash_of key)) → ((g : ℕ) → Has seen g → Has new g) → Passed s from to p es next new
+    pub passed_on : (new : List ℕ) → (p key ≡ true → has_key key w.front ≡ true → ⊥) → (p key ≡ true → Has new (hash_of key)) → ((g : ℕ) → Has seen g → Has new g) → Passed s from to p es entry.next new
     passed_on new n here more = record {
       front = add w.front key t.entry.v;
       rest = t.entry.others;

@@ -12,15 +12,19 @@ use Rattle.item.specs.Tree.{Yaml, Items, end, ◌▸◌, Entries, done, pair, ha
 use Rattle.item.specs.Encode.{item, encode, kind_of}
 use Rattle.item.proofs.Size.{item-length, encode-long}
 use Rattle.item.specs.Places.{header_at}
-use Rattle.item.specs.declared.Header.TheVariants.{Item}
+use Rattle.item.specs.declared.Item.{Item}
+use Rattle.item.specs.declared.Broken.{Broken}
+use Rattle.std.specs.Prelude.{None, Some, Result, Ok, Err}
 use Rattle.item.specs.declared.Found.{Found}
 use Rattle.item.specs.declared.Found.TheVariants as found
 use Rattle.item.proofs.Headers.{spans}
 use Rattle.entries.specs.declared.Pair.{Pair}
-use Rattle.entries.specs.declared.Pair.TheVariants as pairs
-use Rattle.entries.specs.declared.Span.TheVariants.{At, Nowhere}
-use Rattle.entries.specs.Entries.{Stands, Lies, Holds, Places, PairPlaces, Paired, place_of, SoughtAt, Seeks, Finds, span_at}
-use Rattle.entries.proofs.Standing.{stands-left, stands-right, stands_at, stands-part, item-head, item-content, value-head, valued}
+use Rattle.entries.specs.declared.Span.{Span}
+use Rattle.entries.specs.declared.walk.Pairs.{Pairs}
+use Rattle.entries.specs.Walk.{GivesPair}
+use Rattle.std.proofs.Common.{Bor}
+use Rattle.entries.specs.Entries.{Stands, Lies, Holds, Places, PairPlaces, Paired, with_value, with_key, pair_at, place_of, SoughtAt, Seeks, Finds, span_at}
+use Rattle.entries.proofs.Standing.{stands-left, stands-right, stands_at, stands-part, item-head, item-content, value-head}
 
 -- ---- an entry
 
@@ -40,17 +44,12 @@ module _ {s : List ℕ} {at : ℕ} (k : List ℕ) (v : Yaml) (es : Entries) (st 
   others-stand = stands-right (encode v) (encode es) behind-key
 
   module _ (w : length s ≤ 2 ^ 20) where
-    pub key-head : header_at s at ≡ Item 3 (at + 6) (at + 6 + length k)
+    pub key-head : header_at s at ≡ Ok (record { kind = 3; from = at + 6; to = at + 6 + length k })
     key-head = item-head 3 k (omega arith) w key-stands
 
-    pub pair_is : {kind start stop sort from next : ℕ} → Item kind start stop ≡ header_at s at → Item sort from next ≡ header_at s stop
-        → pairs.At start stop sort next ≡ pairs.At (at + 6) (at + 6 + length k) (kind_of v) (at + 6 + length k + length (encode v))
-    pair_is {kind} {start} {stop} {sort} {from} {next} h g =
-        let e : Item kind start stop ≡ Item 3 (at + 6) (at + 6 + length k) = h ∙ key-head in
-        let a : start ≡ at + 6 = cc e in
-        let b : stop ≡ at + 6 + length k = cc e in
-        let i = valued (g ∙ ap (header_at s) b) v w value-stands in
-        rw (a, b, i.kind_is, i.end)
+    pub pair_is : pair_at s at ≡ Ok (record { start = at + 6; end = at + 6 + length k; kind = kind_of v; next = at + 6 + length k + length (encode v) })
+    unfolding pair_at with_key with_value
+    pair_is = rw (key-head, value-head v w value-stands)
 
 -- ---- the first entry
 
@@ -133,63 +132,108 @@ pub record ItemTurn (s : List ℕ) (at to : ℕ) (ys : Items) (next : ℕ) : Typ
   pub behind : Holds s next to item.others
 
 module _ {s : List ℕ} {at to : ℕ} (ys : Items) (w : length s ≤ 2 ^ 20) (m : at < to) (h : Holds s at to ys) where
-  span-is : (f : FirstItem s at to ys) → span_at at (header_at s at) ≡ At at (at + length (encode f.y))
+  span-is : (f : FirstItem s at to ys) → span_at at (header_at s at) ≡ Some (record { start = at; end = at + length (encode f.y) })
   unfolding span_at
   span-is f = ap (span_at at) (value-head f.y w f.value)
 
-  pub item-turn : {start next : ℕ} → At start next ≡ span_at at (header_at s at) → ItemTurn s at to ys next
-  item-turn {start} {next} e =
+  pub item-turn : {span : Span} → Some span ≡ span_at at (header_at s at) → ItemTurn s at to ys span.end
+  item-turn {span} e =
       let f = first-item ys m h in
-      let n : at + length (encode f.y) ≡ next = cc (e, span-is f) in
+      let n : at + length (encode f.y) ≡ span.end = cc (e, span-is f) in
       record { item = f; behind = subst (λ (i : ℕ). Holds s i to f.others) n f.behind }
 
-  pub no_item : {X : Type 0} → Nowhere ≡ span_at at (header_at s at) → X
+  pub no_item : {X : Type 0} → None ≡ span_at at (header_at s at) → X
   no_item e = absurd (let z : ◌≡◌ {A = ℕ} 0 1 = cc (e, span-is (first-item ys m h)) in omega arith)
 
 -- ---- an entry by the answer of `pair_at`
 
 -- whatever stands there
-pub places : (s : List ℕ) (at : ℕ) {kind start stop sort from next : ℕ} → Item kind start stop ≡ header_at s at → Item sort from next ≡ header_at s stop → Places s at start stop next
-places s at {stop = stop} h g =
-    let i = spans s at h in
-    let j = spans s stop g in
-    record { first = i.start; key = i.order; value = omega (arith, j.start, j.order); inside = j.fits }
+pub pair_places : (s : List ℕ) (at : ℕ) → PairPlaces s at (pair_at s at)
+unfolding pair_at with_key with_value
+pair_places s at = go (header_at s at) refl
+  where
+    beside : (key : Item) → Ok key ≡ header_at s at → (r : Result Item Broken) → r ≡ header_at s key.to → PairPlaces s at (with_value key r)
+    beside key h (Ok value) g =
+        let i = spans s at h in
+        let j = spans s key.to g in
+        record { first = i.start; key = i.order; value = omega (arith, j.start, j.order); inside = j.fits }
+    beside key h (Err broken) g = tt
 
-pub places_of : {s : List ℕ} {at start stop kind next : ℕ} {r : Pair} → r ≡ pairs.At start stop kind next → PairPlaces s at r → Places s at start stop next
-places_of {s} {at} e h = subst (PairPlaces s at) e h
+    go : (r : Result Item Broken) → r ≡ header_at s at → PairPlaces s at (with_key s r)
+    go (Ok key) h = beside key h (header_at s key.to) refl
+    go (Err broken) h = tt
+
+pub paired : (s : List ℕ) (at : ℕ) → Paired s at (pair_at s at)
+paired s at k v es w st = pair_is k v es st w
+
+pub places_of : (s : List ℕ) (at : ℕ) {p : Pair} → pair_at s at ≡ Ok p → Places s at p.start p.end p.next
+places_of s at e = subst (PairPlaces s at) e (pair_places s at)
 
 -- a turn of a walk along entries
-pub record Turn (s : List ℕ) (at to : ℕ) (es : Entries) (start stop kind next : ℕ) : Type 0 where
+pub record Turn (s : List ℕ) (at to : ℕ) (es : Entries) (p : Pair) : Type 0 where
   pub entry : First s at to es
-  pub kind_is : kind ≡ kind_of entry.v
-  pub key_is : take (stop - start) (drop start s) ≡ entry.k
-  pub value : Stands s stop (encode entry.v)
-  pub behind : Lies s next to entry.others
-  pub value_place : stop ≡ at + 6 + length entry.k
-  pub next_place : next ≡ at + 6 + length entry.k + length (encode entry.v)
+  pub kind_is : p.kind ≡ kind_of entry.v
+  pub key_is : take (p.end - p.start) (drop p.start s) ≡ entry.k
+  pub value : Stands s p.end (encode entry.v)
+  pub behind : Lies s p.next to entry.others
+  pub value_place : p.end ≡ at + 6 + length entry.k
+  pub next_place : p.next ≡ at + 6 + length entry.k + length (encode entry.v)
 
-pub turn : {s : List ℕ} {at to start stop kind next : ℕ} {r : Pair} (es : Entries) → length s ≤ 2 ^ 20 → at < to → Paired s at r → r ≡ pairs.At start stop kind next → Lies s at to es → Turn s at to es start stop kind next
-turn {s} {at} {to} {start} {stop} {kind} {next} es w m p e h =
+pub turn : {s : List ℕ} {at to : ℕ} {p : Pair} (es : Entries) → length s ≤ 2 ^ 20 → at < to → pair_at s at ≡ Ok p → Lies s at to es → Turn s at to es p
+turn {s} {at} {to} {p} es w m e h =
     let f = first es m h in
-    let q : pairs.At start stop kind next ≡ pairs.At (at + 6) (at + 6 + length f.k) (kind_of f.v) (at + 6 + length f.k + length (encode f.v)) = sym e ∙ p f.k f.v f.others w f.whole in
-    let a : start ≡ at + 6 = cc q in
-    let b : stop ≡ at + 6 + length f.k = cc q in
-    let n : next ≡ at + 6 + length f.k + length (encode f.v) = cc q in
+    let q : Ok p ≡ Ok (record { start = at + 6; end = at + 6 + length f.k; kind = kind_of f.v; next = at + 6 + length f.k + length (encode f.v) }) = sym e ∙ pair_is f.k f.v f.others f.whole w in
+    let a : p.start ≡ at + 6 = cc q in
+    let b : p.end ≡ at + 6 + length f.k = cc q in
+    let n : p.next ≡ at + 6 + length f.k + length (encode f.v) = cc q in
     record {
       entry = f;
       kind_is = cc q;
-      key_is = ap (λ (i : ℕ). take (stop - start) (drop i s)) a ∙ stands-part f.key (stop - start) (omega (arith, a, b));
+      key_is = ap (λ (i : ℕ). take (p.end - p.start) (drop i s)) a ∙ stands-part f.key (p.end - p.start) (omega (arith, a, b));
       value = stands_at (sym b) f.value;
       behind = subst (λ (i : ℕ). Lies s i to f.others) (sym n) f.behind;
       value_place = b;
       next_place = n;
     }
 
-pub no-entry : {s : List ℕ} {at to : ℕ} {r : Pair} {X : Type 0} (es : Entries) → length s ≤ 2 ^ 20 → at < to → Paired s at r → r ≡ pairs.Nowhere → Lies s at to es → X
-no-entry es w m p e h =
+pub no-entry : {s : List ℕ} {at to : ℕ} {broken : Broken} {X : Type 0} (es : Entries) → length s ≤ 2 ^ 20 → at < to → pair_at s at ≡ Err broken → Lies s at to es → X
+no-entry es w m e h =
     let f = first es m h in
-    let q = p f.k f.v f.others w f.whole in
-    absurd (let z : ◌≡◌ {A = ℕ} 0 1 = cc (e, q) in omega arith)
+    absurd (let z : ◌≡◌ {A = ℕ} 0 1 = cc (e, pair_is f.k f.v f.others f.whole w) in omega arith)
+
+-- ---- a turn of a `for` over the entries of a part
+
+-- it gives the entry, and goes on behind it
+pub record Step (s : List ℕ) (at to : ℕ) (p : Pair) (new : Pairs) : Type 0 where
+  pub before : at < to
+  pub is : pair_at s at ≡ Ok p
+  pub places : Places s at p.start p.end p.next
+  pub bytes : new.bytes.now ≡ s
+  pub end : new.to ≡ to
+  pub next : new.at ≡ p.next
+
+-- it gives none, and that is the end
+pub record Stop (s : List ℕ) (at to : ℕ) (broken : Broken) : Type 0 where
+  pub before : at < to
+  pub is : pair_at s at ≡ Err broken
+
+module _ (old new : Pairs) {s : List ℕ} {to : ℕ} (b : old.bytes.now ≡ s) (t : old.to ≡ to) where
+  pub step : {r : Result Pair Broken} {p : Pair} → GivesPair old (Some r) new → r ≡ Ok p → Step s old.at to p new
+  step {p = p} g e =
+      let h = subst (λ (x : Result Pair Broken). GivesPair old (Some x) new) e g in
+      record {
+        before = omega (arith, h.0, t);
+        is = rw (← b) h.1;
+        places = rw (← b) h.2;
+        bytes = ap (λ (x : Bor (List ℕ)). x.now) h.3.bytes ∙ b;
+        end = h.3.to ∙ t;
+        next = h.4;
+      }
+
+  pub stop : {r : Result Pair Broken} {broken : Broken} → GivesPair old (Some r) new → r ≡ Err broken → Stop s old.at to broken
+  stop g e =
+      let h = subst (λ (x : Result Pair Broken). GivesPair old (Some x) new) e g in
+      record { before = omega (arith, h.0, t); is = rw (← b) h.1 }
 
 -- ---- the search for a key
 
@@ -212,26 +256,26 @@ module _ {s key : List ℕ} {from to at : ℕ} {es : Entries} (w : Sought s key 
   unfolding place_of
   place_end = sym (w.same_place ∙ ap (place_of key at) (no_more w.rest h w.lies))
 
-module _ {s key : List ℕ} {from to at start stop kind next : ℕ} {es : Entries} (w : Sought s key from to at es) (t : Turn s at to w.rest start stop kind next) where
-  here : {b : Bool} → same (take (stop - start) (drop start s)) key ≡ b → get key es ≡ (if b then some t.entry.v else get key t.entry.others)
+module _ {s key : List ℕ} {from to at : ℕ} {es : Entries} {p : Pair} (w : Sought s key from to at es) (t : Turn s at to w.rest p) where
+  here : {b : Bool} → same (take (p.end - p.start) (drop p.start s)) key ≡ b → get key es ≡ (if b then some t.entry.v else get key t.entry.others)
   unfolding get
   here {b} e = w.same_value ∙ ap (get key) t.entry.is ∙ ap (λ (l : Bool). if l then some t.entry.v else get key t.entry.others) (ap (λ (l : List ℕ). same l key) (sym t.key_is) ∙ e)
 
-  placed : {b : Bool} → same (take (stop - start) (drop start s)) key ≡ b → place_of key from es ≡ (if b then found.At stop else place_of key next t.entry.others)
+  placed : {b : Bool} → same (take (p.end - p.start) (drop p.start s)) key ≡ b → place_of key from es ≡ (if b then found.At p.end else place_of key p.next t.entry.others)
   unfolding place_of
   placed {b} e =
       w.same_place ∙ ap (place_of key at) t.entry.is
       ∙ ap (λ (i : ℕ). if same t.entry.k key then found.At i else place_of key (i + length (encode t.entry.v)) t.entry.others) (sym t.value_place)
-      ∙ ap (λ (i : ℕ). if same t.entry.k key then found.At stop else place_of key i t.entry.others) (omega (arith, t.value_place, t.next_place))
-      ∙ ap (λ (l : Bool). if l then found.At stop else place_of key next t.entry.others) (ap (λ (l : List ℕ). same l key) (sym t.key_is) ∙ e)
+      ∙ ap (λ (i : ℕ). if same t.entry.k key then found.At p.end else place_of key i t.entry.others) (omega (arith, t.value_place, t.next_place))
+      ∙ ap (λ (l : Bool). if l then found.At p.end else place_of key p.next t.entry.others) (ap (λ (l : List ℕ). same l key) (sym t.key_is) ∙ e)
 
-  pub search-found : same (take (stop - start) (drop start s)) key ≡ true → SoughtAt s (get key es) stop
+  pub search-found : same (take (p.end - p.start) (drop p.start s)) key ≡ true → SoughtAt s (get key es) p.end
   search-found e = record { value = t.entry.v; is = here e; stands = t.value }
 
-  pub place_found : same (take (stop - start) (drop start s)) key ≡ true → found.At stop ≡ place_of key from es
+  pub place_found : same (take (p.end - p.start) (drop p.start s)) key ≡ true → found.At p.end ≡ place_of key from es
   place_found e = sym (placed e)
 
-  pub search-on : same (take (stop - start) (drop start s)) key ≡ false → Sought s key from to next es
+  pub search-on : same (take (p.end - p.start) (drop p.start s)) key ≡ false → Sought s key from to p.next es
   search-on e = record { rest = t.entry.others; lies = t.behind; same_value = here e; same_place = placed e }
 
 -- ---- what was found

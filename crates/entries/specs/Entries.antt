@@ -1,19 +1,17 @@
 -- Section 5 of document 01, for contracts: encoded items side by side in some bytes, where they stand, and what was found among them. Uses
 -- Base of `refusal`; Tree, Encode and Places of `item`. Assumes nothing.
-use Rattle.std.specs.Prelude.{◌≡◌, ℕ, zero, suc, ◌+◌, ◌≤◌, ◌^◌, List, [], ◌∷◌, ◌++◌, length, drop, Bool, false, ◌||◌, if◌then◌else◌}
+use Rattle.std.specs.Prelude.{◌≡◌, ℕ, zero, suc, ◌+◌, ◌≤◌, ◌^◌, List, [], ◌∷◌, ◌++◌, length, drop, Bool, false, ◌||◌, if◌then◌else◌, Option as StdOption, None, Some, Result, Ok, Err}
 use Rattle.std.proofs.Math.Option.{Option, none, some}
 use Rattle.refusal.specs.Base.{same}
 use Rattle.item.specs.Tree.{Shape, Node, Yaml, null, bool, int, str, seq, dict, Entries, done, pair, has_key, Ranged}
 use Rattle.item.specs.Encode.{le, twos, flag, encode, kind_of}
 use Rattle.item.specs.Places.{header_at}
-use Rattle.item.specs.declared.Header.{Header}
-use Rattle.item.specs.declared.Header.TheVariants.{Item, Cut, PastEnd}
+use Rattle.item.specs.declared.Item.{Item}
+use Rattle.item.specs.declared.Broken.{Broken}
 use Rattle.item.specs.declared.Found.{Found}
 use Rattle.item.specs.declared.Found.TheVariants as found
 use Rattle.entries.specs.declared.Pair.{Pair}
-use Rattle.entries.specs.declared.Pair.TheVariants as pairs
 use Rattle.entries.specs.declared.Span.{Span}
-use Rattle.entries.specs.declared.Span.TheVariants.{At, Nowhere}
 
 -- bytes that stand at a place of others
 pub record Stands (s : List ℕ) (p : ℕ) (b : List ℕ) : Type 0 where
@@ -42,6 +40,18 @@ pub record Holds {sh : Shape} (s : List ℕ) (from to : ℕ) (n : Node sh) : Typ
 
 -- ---- an entry
 
+-- the entry at a place, by its key's header and its value's
+unfoldable pub with_value : Item → Result Item Broken → Result Pair Broken
+with_value key (Ok value) = Ok (record { start = key.from; end = key.to; kind = value.kind; next = value.to })
+with_value key (Err broken) = Err broken
+
+unfoldable pub with_key : List ℕ → Result Item Broken → Result Pair Broken
+with_key s (Ok key) = with_value key (header_at s key.to)
+with_key s (Err broken) = Err broken
+
+unfoldable pub pair_at : List ℕ → ℕ → Result Pair Broken
+pair_at s at = with_key s (header_at s at)
+
 -- its places, whatever stands there
 pub record Places (s : List ℕ) (at start end next : ℕ) : Type 0 where
   pub first : start ≡ at + 6
@@ -49,15 +59,15 @@ pub record Places (s : List ℕ) (at start end next : ℕ) : Type 0 where
   pub value : end + 6 ≤ next
   pub inside : next ≤ length s
 
-abbrev pub PairPlaces : List ℕ → ℕ → Pair → Type 0
-PairPlaces s at (pairs.At start end kind next) = Places s at start end next
-PairPlaces s at pairs.Nowhere = Unit {0}
+abbrev pub PairPlaces : List ℕ → ℕ → Result Pair Broken → Type 0
+PairPlaces s at (Ok entry) = Places s at entry.start entry.end entry.next
+PairPlaces s at (Err broken) = Unit {0}
 
 -- its places, where an entry stands
-abbrev pub Paired : List ℕ → ℕ → Pair → Type 0
+abbrev pub Paired : List ℕ → ℕ → Result Pair Broken → Type 0
 Paired s at r =
     (k : List ℕ) (v : Yaml) (es : Entries) → length s ≤ 2 ^ 20 → Stands s at (encode (pair k v es))
-    → r ≡ pairs.At (at + 6) (at + 6 + length k) (kind_of v) (at + 6 + length k + length (encode v))
+    → r ≡ Ok (record { start = at + 6; end = at + 6 + length k; kind = kind_of v; next = at + 6 + length k + length (encode v) })
 
 -- ---- a key's value
 
@@ -100,17 +110,15 @@ key_twice (pair k v es) = has_key k es || key_twice es
 -- ---- the n-th item
 
 -- the item at a place, by its header
-unfoldable pub span_at : ℕ → Header → Span
-span_at at (Item kind from to) = At at to
-span_at at Cut = Nowhere
-span_at at PastEnd = Nowhere
+unfoldable pub span_at : ℕ → Result Item Broken → StdOption Span
+span_at at (Ok item) = Some (record { start = at; end = item.to })
+span_at at (Err broken) = None
 
-unfoldable pub behind : Header → (ℕ → Span) → Span
-behind (Item kind from to) more = more to
-behind Cut more = Nowhere
-behind PastEnd more = Nowhere
+unfoldable pub behind : Result Item Broken → (ℕ → StdOption Span) → StdOption Span
+behind (Ok item) more = more item.to
+behind (Err broken) more = None
 
 -- the item behind so many others
-unfoldable pub nth_item : List ℕ → ℕ → ℕ → Span
+unfoldable pub nth_item : List ℕ → ℕ → ℕ → StdOption Span
 nth_item s at zero = span_at at (header_at s at)
 nth_item s at (suc skip) = behind (header_at s at) (λ to. nth_item s to skip)

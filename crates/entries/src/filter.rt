@@ -1,41 +1,28 @@
 // Whether a key stands twice among entries. Bits of the keys that were passed tell most keys to be new; where all bits of a key are there
 // already, the exact search decides. Where too many keys share their bits, as keys can be made to, the keys are put in order instead.
-ghost use Rattle.std.specs.Prelude.{◌≡◌, ◌≤◌, ◌<◌, ◌^◌, length};
+ghost use Rattle.std.specs.Prelude.{◌≡◌, ◌≤◌, ◌<◌, ◌^◌, IfOk, length};
 ghost use Rattle.item.specs.Tree.{Entries};
 ghost use Rattle.entries.specs.Entries.{Lies, key_twice};
-ghost use Rattle.entries.specs.Contract.{hash_of, bits_of, Marked, twice_in, of_class, Filters};
+ghost use Rattle.entries.specs.Contract.{hash_of, bits_of, Marked, twice_in, of_class};
 
 use crate::sorted::sorted_repeats;
-use crate::{Pair, Span, has_key, nth_item, pair_at, search};
+use crate::{Pairs, has_key, nth_item, search};
 use item::Found;
 
-// As many words as hold the bits of a class, or the places of keys that are put in order.
-pub(crate) const WORDS: usize = 2048;
+// As many words as hold the bits of a class.
+const WORDS: usize = 2048;
 
-// Whether a key stands twice, as far as bits and a few searches tell.
+// Too many keys share their bits for a few searches to tell.
 #[derive(Clone, Copy)]
-enum Filtered {
-    Twice,
-    Once,
-    Crowded,
-}
-
-// A byte as a wider number; the caller owes nothing for the cast.
-fn wide(b: u8) -> usize
-    ensures { (result ≡ b) × (result < 256) }
-{
-    b as usize
-}
+struct Crowded;
 
 // Equal keys have equal hashes; the factor is FNV's.
 fn hash(key: &[u8]) -> usize
     ensures { result ≡ hash_of key.now }
 {
     let mut h: usize = 0;
-    let mut i = 0;
-    while i < key.len() {
-        h = (h + wide(key[i]) + 1) * 16777619 % 4294967296;
-        i += 1;
+    for &b in key {
+        h = (h + b as usize + 1) * 16777619 % 4294967296;
     }
     h
 }
@@ -62,17 +49,6 @@ fn mark(seen: &mut [usize; WORDS], h: usize) -> bool
     old & bits == bits
 }
 
-fn clear(words: &mut [usize; WORDS])
-    requires { length words.old ≡ 2 ^ 11 }
-    ensures { length words.new ≡ 2 ^ 11 }
-{
-    let mut i = 0;
-    while i < WORDS {
-        words[i] = 0;
-        i += 1;
-    }
-}
-
 // Whether a key of one class stands twice; the classes are the numbers up to `last`. A search that finds nothing costs a walk, and so
 // there are few of them.
 fn class_repeats(
@@ -82,63 +58,47 @@ fn class_repeats(
     class: usize,
     last: usize,
     seen: &mut [usize; WORDS],
-) -> Filtered
+) -> Result<bool, Crowded>
     requires { (from ≤ to) × (to ≤ length s.now) × (length s.now ≤ 2 ^ 20) × (length seen.old ≡ 2 ^ 11) }
     ensures seen_len { length seen.new ≡ 2 ^ 11 }
-    ensures filters { (es : Entries) → Lies s.now from to es → Filters (twice_in (of_class class last) es) result }
+    ensures told { (es : Entries) → Lies s.now from to es → IfOk result (λ told. told ≡ twice_in (of_class class last) es) }
 {
-    clear(seen);
+    seen.fill(0);
     let mut spare: usize = 32;
-    let mut at = from;
-    while at < to {
-        let pair = pair_at(s, at);
-        let Pair::At {
-            start,
-            end,
-            kind: _,
-            next,
-        } = pair
-        else {
-            return Filtered::Once;
+    for pair in Pairs::within(s, from, to) {
+        let Ok(pair) = pair else {
+            return Ok(false);
         };
-        let h = hash(&s[start..end]);
-        if (h / 268435456) & last == class {
-            if mark(seen, h) {
-                if has_key(s, from, at, start, end) {
-                    return Filtered::Twice;
-                }
-                if spare == 0 {
-                    return Filtered::Crowded;
-                }
-                spare -= 1;
+        let h = hash(&s[pair.start..pair.end]);
+        let is_of_class = (h / 268435456) & last == class;
+        if is_of_class && mark(seen, h) {
+            // The entries before this one end where its key's header begins.
+            if has_key(s, from, pair.start - 6, pair.start, pair.end) {
+                return Ok(true);
             }
+            if spare == 0 {
+                return Err(Crowded);
+            }
+            spare -= 1;
         }
-        at = next;
     }
-    Filtered::Once
+    Ok(false)
 }
 
-// The classes one after the other.
-fn filter_repeats(
-    s: &[u8],
-    from: usize,
-    to: usize,
-    last: usize,
-    seen: &mut [usize; WORDS],
-) -> Filtered
-    requires { (from ≤ to) × (to ≤ length s.now) × (length s.now ≤ 2 ^ 20) × (last < 2 ^ 4) × (length seen.old ≡ 2 ^ 11) }
-    ensures seen_len { length seen.new ≡ 2 ^ 11 }
-    ensures filters { (es : Entries) → Lies s.now from to es → Filters (key_twice es) result }
+// The classes one after the other. Kept out of its caller's frame, so that its bits and the keys that are put in order never lie on the
+// stack together; both are gone before another mapping is read, so that depth costs none.
+#[inline(never)]
+fn filter_repeats(s: &[u8], from: usize, to: usize, last: usize) -> Result<bool, Crowded>
+    requires { (from ≤ to) × (to ≤ length s.now) × (length s.now ≤ 2 ^ 20) × (last < 2 ^ 4) }
+    ensures { (es : Entries) → Lies s.now from to es → IfOk result (λ told. told ≡ key_twice es) }
 {
-    let mut class = 0;
-    while class <= last {
-        match class_repeats(s, from, to, class, last, seen) {
-            Filtered::Twice => return Filtered::Twice,
-            Filtered::Once => class += 1,
-            Filtered::Crowded => return Filtered::Crowded,
+    let mut seen = [0usize; WORDS];
+    for class in 0..=last {
+        if class_repeats(s, from, to, class, last, &mut seen)? {
+            return Ok(true);
         }
     }
-    Filtered::Once
+    Ok(false)
 }
 
 // Each key is searched for among those behind it.
@@ -146,23 +106,14 @@ fn few_repeat(s: &[u8], from: usize, to: usize) -> bool
     requires { (from ≤ to) × (to ≤ length s.now) × (length s.now ≤ 2 ^ 20) }
     ensures { (es : Entries) → Lies s.now from to es → result ≡ key_twice es }
 {
-    let mut at = from;
-    while at < to {
-        let pair = pair_at(s, at);
-        let Pair::At {
-            start,
-            end,
-            kind: _,
-            next,
-        } = pair
-        else {
+    for pair in Pairs::within(s, from, to) {
+        let Ok(pair) = pair else {
             return false;
         };
-        let behind = search(s, next, to, &s[start..end]);
+        let behind = search(s, pair.next, to, &s[pair.start..pair.end]);
         if let Found::At(_) = behind {
             return true;
         }
-        at = next;
     }
     false
 }
@@ -171,27 +122,16 @@ fn few_repeat(s: &[u8], from: usize, to: usize) -> bool
 fn has_more(s: &[u8], from: usize, to: usize, items: usize) -> bool
     requires { from ≤ to }
 {
-    if (to - from) / 6 <= items {
-        return false;
-    }
-    let item = nth_item(s, from, items);
-    let Span::At { start, end: _ } = item else {
-        return false;
-    };
-    start < to
+    (to - from) / 6 > items && nth_item(s, from, items).is_some_and(|item| item.start < to)
 }
 
-// The words stand in this frame alone, which is gone before another mapping is read, so that depth costs none. A function that is called
-// at one place only may be compiled into its caller, frame and all: this one is called at several.
 fn many_repeat(s: &[u8], from: usize, to: usize, last: usize) -> bool
     requires { (from ≤ to) × (to ≤ length s.now) × (length s.now ≤ 2 ^ 20) × (last < 2 ^ 4) }
     ensures { (es : Entries) → Lies s.now from to es → result ≡ key_twice es }
 {
-    let mut words = [0usize; WORDS];
-    match filter_repeats(s, from, to, last, &mut words) {
-        Filtered::Twice => true,
-        Filtered::Once => false,
-        Filtered::Crowded => sorted_repeats(s, from, to, &mut words),
+    match filter_repeats(s, from, to, last) {
+        Ok(is_twice) => is_twice,
+        Err(Crowded) => sorted_repeats(s, from, to),
     }
 }
 

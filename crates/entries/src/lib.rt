@@ -6,93 +6,68 @@ ghost use Rattle.std.specs.Prelude.{◌≡◌, ◌-◌, ◌≤◌, ◌^◌, leng
 ghost use Rattle.item.specs.Tree.{Entries, has_key, get};
 ghost use Rattle.item.specs.Encode.{encode};
 ghost use Rattle.item.specs.Places.{header_at};
-ghost use Rattle.entries.specs.Entries.{Lies, Holds, PairPlaces, Paired, place_of, Seeks, Finds, FoundInside, span_at, nth_item};
+ghost use Rattle.entries.specs.Entries.{Lies, Holds, pair_at, PairPlaces, Paired, place_of, Seeks, Finds, FoundInside, span_at, nth_item};
 
 mod filter;
 mod sorted;
+mod walk;
 
 pub use filter::repeats;
-use item::{Found, Header, equal_bytes, header_at};
+use item::{Broken, Found, equal_bytes, header_at};
+pub use walk::Pairs;
 
 // An item by its places.
-#[derive(Clone, Copy)]
-pub enum Span {
-    At { start: usize, end: usize },
-    Nowhere,
+#[derive(Clone, Copy, Debug, PartialEq, Eq)]
+pub struct Span {
+    pub start: usize,
+    pub end: usize,
 }
 
 // An entry: where its key's text begins and ends, which is where its value's item begins; the value's kind and its end.
-#[derive(Clone, Copy)]
-pub enum Pair {
-    At {
-        start: usize,
-        end: usize,
-        kind: usize,
-        next: usize,
-    },
-    Nowhere,
+#[derive(Clone, Copy, Debug, PartialEq, Eq)]
+pub struct Pair {
+    pub start: usize,
+    pub end: usize,
+    pub kind: usize,
+    pub next: usize,
 }
 
-pub fn item_at(s: &[u8], at: usize) -> Span
+#[tactic(auto, unfolding(crate::specs::Entries::span_at))]
+pub fn item_at(s: &[u8], at: usize) -> Option<Span>
     ensures { result ≡ span_at at (header_at s.now at) }
 {
-    let head = header_at(s, at);
-    let Header::Item {
-        kind: _,
-        from: _,
-        to: end,
-    } = head
-    else {
-        return Span::Nowhere;
-    };
-    Span::At { start: at, end }
+    let item = header_at(s, at).ok()?;
+    Some(Span {
+        start: at,
+        end: item.to,
+    })
 }
 
 // The item that stands `skip` items behind the one at `from`.
-pub fn nth_item(s: &[u8], from: usize, skip: usize) -> Span
+pub fn nth_item(s: &[u8], from: usize, skip: usize) -> Option<Span>
     ensures { result ≡ nth_item s.now from skip }
 {
     let mut at = from;
-    let mut left = skip;
-    while left > 0 {
-        let item = item_at(s, at);
-        let Span::At { start: _, end } = item else {
-            return Span::Nowhere;
-        };
-        at = end;
-        left -= 1;
+    for _ in 0..skip {
+        at = item_at(s, at)?.end;
     }
     item_at(s, at)
 }
 
-pub fn pair_at(s: &[u8], at: usize) -> Pair
+#[tactic(auto, using(crate::proofs::Walking::pair_places, crate::proofs::Walking::paired), unfolding(crate::specs::Entries::pair_at, crate::specs::Entries::with_key, crate::specs::Entries::with_value))]
+pub fn pair_at(s: &[u8], at: usize) -> Result<Pair, Broken>
+    ensures value { result ≡ pair_at s.now at }
     ensures pair_places { PairPlaces s.now at result }
     ensures entry { Paired s.now at result }
 {
-    let head = header_at(s, at);
-    let Header::Item {
-        kind: _,
-        from: start,
-        to: end,
-    } = head
-    else {
-        return Pair::Nowhere;
-    };
-    let value = header_at(s, end);
-    let Header::Item {
-        kind,
-        from: _,
-        to: next,
-    } = value
-    else {
-        return Pair::Nowhere;
-    };
-    Pair::At {
-        start,
-        end,
-        kind,
-        next,
-    }
+    let key = header_at(s, at)?;
+    let value = header_at(s, key.to)?;
+    Ok(Pair {
+        start: key.from,
+        end: key.to,
+        kind: value.kind,
+        next: value.to,
+    })
 }
 
 // The search for a key among the entries from `from` to `to`: the place of its value.
@@ -102,24 +77,14 @@ pub fn search(s: &[u8], from: usize, to: usize, key: &[u8]) -> Found
     ensures value { (es : Entries) → Lies s.now from to es → Seeks s.now (get key.now es) result }
     ensures place { (es : Entries) → Lies s.now from to es → result ≡ place_of key.now from es }
 {
-    let mut at = from;
-    while at < to {
-        let pair = pair_at(s, at);
-        let Pair::At {
-            start,
-            end,
-            kind: _,
-            next,
-        } = pair
-        else {
+    for pair in Pairs::within(s, from, to) {
+        let Ok(pair) = pair else {
             return Found::Nothing;
         };
-        if end - start == key.len() {
-            if equal_bytes(&s[start..end], key) {
-                return Found::At(end);
-            }
+        let is_as_long = pair.end - pair.start == key.len();
+        if is_as_long && equal_bytes(&s[pair.start..pair.end], key) {
+            return Found::At(pair.end);
         }
-        at = next;
     }
     Found::Nothing
 }

@@ -1,144 +1,121 @@
 // Whether a key stands twice among entries, whatever their keys are: the first keys are put in order, each key behind them is looked up
 // there, and so on with those behind.
-ghost use Rattle.std.specs.Prelude.{◌≤◌, ◌<◌, ◌^◌, ◌≡◌, length};
+ghost use Rattle.std.specs.Prelude.{◌≤◌, ◌<◌, ◌^◌, ◌≡◌, IfSome, length};
+ghost use Rattle.std.specs.Ordering.{nat_cmp};
+ghost use Rattle.std.specs.Cmp.Lexicographic.{slice_cmp};
 ghost use Rattle.item.specs.Tree.{Entries};
 ghost use Rattle.entries.specs.Entries.{Lies, key_twice};
-ghost use Rattle.entries.specs.Contract.{OrderOf, WordInside, key_of, Run, Located, Inserted, AgreesChunk, Goes};
+ghost use Rattle.entries.specs.Contract.{key_cmp, key_of, Run, Located, Inserted, AgreesChunk};
 
-use crate::filter::WORDS;
-use crate::{Pair, pair_at};
+use crate::Pairs;
+use std::cmp::Ordering;
 
-// More than a place in the bytes can be.
-const PLACES: usize = 2097152;
+// As many keys as are put in order at once.
+const KEYS: usize = 2048;
 
-// Where a key stands beside another.
+// Where a key stands in the bytes; small, since many are kept.
 #[derive(Clone, Copy)]
-enum Order {
-    Below,
-    Same,
-    Above,
+struct KeyPlace {
+    start: u32,
+    end: u32,
 }
 
-// Where a key goes among others, unless it is one of them.
-#[derive(Clone, Copy)]
-enum Place {
-    Taken,
-    Free(usize),
+impl KeyPlace {
+    fn key(self, s: &[u8]) -> &[u8]
+        ensures { result.now ≡ key_of s.now self }
+    {
+        s.get(self.start as usize..self.end as usize).unwrap_or(&[])
+    }
 }
 
-// The keys of a chunk: one stands twice, or none does, and the entries behind the chunk begin at a place.
-#[derive(Clone, Copy)]
-enum Chunk {
-    Twice,
-    Behind(usize),
-}
-
-fn compare(a: &[u8], b: &[u8]) -> Order
+// A loop, since on short keys the order of slices takes nearly twice as long.
+fn compare_bytes(a: &[u8], b: &[u8]) -> Ordering
     requires { length a.now ≡ length b.now }
-    ensures { OrderOf a.now b.now result }
+    ensures { result ≡ slice_cmp nat_cmp a.now b.now }
 {
-    let mut i = 0;
-    while i < a.len() {
-        if a[i] < b[i] {
-            return Order::Below;
+    for (i, x) in a.iter().enumerate() {
+        let order = x.cmp(&b[i]);
+        if order.is_ne() {
+            return order;
         }
-        if a[i] > b[i] {
-            return Order::Above;
-        }
-        i += 1;
     }
-    Order::Same
+    Ordering::Equal
 }
 
-// A word is the place where a key begins, times PLACES, and the place where it ends.
-fn compare_word(s: &[u8], word: usize, key: &[u8]) -> Order
-    requires { WordInside s.now word }
-    ensures { OrderOf (key_of s.now word) key.now result }
+// The shorter is below, so that most are told by their lengths.
+fn compare(a: &[u8], b: &[u8]) -> Ordering
+    ensures { result ≡ key_cmp a.now b.now }
 {
-    let start = word / PLACES;
-    let end = word % PLACES;
-    if end - start < key.len() {
-        return Order::Below;
+    let order = a.len().cmp(&b.len());
+    if order.is_ne() {
+        return order;
     }
-    if end - start > key.len() {
-        return Order::Above;
-    }
-    compare(&s[start..end], key)
+    compare_bytes(a, b)
 }
 
-fn place_of(s: &[u8], run: &[usize; WORDS], count: usize, key: &[u8]) -> Place
+// Where a key goes among others; or where it is one of them.
+fn place_of(s: &[u8], run: &[KeyPlace; KEYS], count: usize, key: &[u8]) -> Result<usize, usize>
     requires { Run s.now run.now count }
     ensures { Located s.now run.now count key.now result }
 {
-    let mut low = 0;
-    let mut high = count;
-    while low < high {
-        let middle = (low + high) / 2;
-        match compare_word(s, run[middle], key) {
-            Order::Below => low = middle + 1,
-            Order::Same => return Place::Taken,
-            Order::Above => high = middle,
-        }
-    }
-    Place::Free(low)
+    run[..count].binary_search_by(|place| compare(place.key(s), key))
 }
 
-fn insert(run: &mut [usize; WORDS], count: usize, place: usize, word: usize)
-    requires { (place ≤ count) × (count < 2 ^ 11) × (length run.old ≡ 2 ^ 11) }
-    ensures { Inserted run.old run.new count place word }
+// A loop, since libraries call no `memmove`.
+fn insert(run: &mut [KeyPlace; KEYS], count: usize, index: usize, place: KeyPlace)
+    requires { (index ≤ count) × (count < 2 ^ 11) × (length run.old ≡ 2 ^ 11) }
+    ensures { Inserted run.old run.new count index place }
 {
-    let mut i = count;
-    while i > place {
-        run[i] = run[i - 1];
-        i -= 1;
+    for i in (index..count).rev() {
+        run[i + 1] = run[i];
     }
-    run[place] = word;
+    run[index] = place;
 }
 
-// The first entries are put in order, and those behind them are looked up.
-fn chunk_repeats(s: &[u8], from: usize, to: usize, run: &mut [usize; WORDS]) -> Chunk
+// The first entries are put in order, and those behind them are looked up: where the entries behind the first begin, unless a key stands
+// twice.
+fn chunk_repeats(s: &[u8], from: usize, to: usize, run: &mut [KeyPlace; KEYS]) -> Option<usize>
     requires { (from < to) × (to ≤ length s.now) × (length s.now ≤ 2 ^ 20) × (length run.old ≡ 2 ^ 11) }
-    ensures goes_on { (length run.new ≡ 2 ^ 11) × Goes from result }
+    ensures run_len { length run.new ≡ 2 ^ 11 }
+    ensures goes_on { IfSome result (λ behind. from < behind) }
     ensures agrees_chunk { (es : Entries) → Lies s.now from to es → AgreesChunk s.now to es result }
 {
     let mut count = 0;
     let mut behind = from;
-    let mut at = from;
-    while at < to {
-        let pair = pair_at(s, at);
-        let Pair::At {
-            start,
-            end,
-            kind: _,
-            next,
-        } = pair
-        else {
-            return Chunk::Behind(to);
+    for pair in Pairs::within(s, from, to) {
+        let Ok(pair) = pair else {
+            return Some(to);
         };
-        let place = place_of(s, run, count, &s[start..end]);
-        let Place::Free(gap) = place else {
-            return Chunk::Twice;
+        let Err(index) = place_of(s, run, count, &s[pair.start..pair.end]) else {
+            return None;
         };
-        if count < WORDS {
-            insert(run, count, gap, start * PLACES + end);
+        if count < KEYS {
+            let place = KeyPlace {
+                start: pair.start as u32,
+                end: pair.end as u32,
+            };
+            insert(run, count, index, place);
             count += 1;
-            behind = next;
+            behind = pair.next;
         }
-        at = next;
     }
-    Chunk::Behind(behind)
+    Some(behind)
 }
 
-pub fn sorted_repeats(s: &[u8], from: usize, to: usize, run: &mut [usize; WORDS]) -> bool
-    requires { (from ≤ to) × (to ≤ length s.now) × (length s.now ≤ 2 ^ 20) × (length run.old ≡ 2 ^ 11) }
+// Kept out of its caller's frame, so that its keys and the caller's bits never lie on the stack together. A `while`, as it goes on where a
+// chunk ends.
+#[inline(never)]
+pub fn sorted_repeats(s: &[u8], from: usize, to: usize) -> bool
+    requires { (from ≤ to) × (to ≤ length s.now) × (length s.now ≤ 2 ^ 20) }
     ensures { (es : Entries) → Lies s.now from to es → result ≡ key_twice es }
 {
+    let mut run = [KeyPlace { start: 0, end: 0 }; KEYS];
     let mut at = from;
     while at < to {
-        match chunk_repeats(s, at, to, run) {
-            Chunk::Twice => return true,
-            Chunk::Behind(behind) => at = behind,
-        }
+        let Some(behind) = chunk_repeats(s, at, to, &mut run) else {
+            return true;
+        };
+        at = behind;
     }
     false
 }

@@ -1,40 +1,35 @@
 -- Where the loops of the readers of collections stand, and what each of their turns comes to. Assumes nothing.
-use Rattle.std.specs.Prelude.{if◌then◌else◌}
+use Rattle.std.specs.Prelude.{Result, Ok, Err, if◌then◌else◌}
 use mathlib.Core.Path.{◌≡◌, refl, sym, ap, ◌∙◌, subst}
 use mathlib.Core.Logic.{⊎_elim}
 use Prim.Native.Nat.{ℕ, suc, ◌+◌, ◌-◌, ◌≤◌, ◌<◌}
 use native.Mathlib.Numerals.{add-one}
 use native.Mathlib.Omega.{arith}
-use mathlib.Core.List.{List, [], ◌∷◌, ◌++◌, append_assoc, append-nil}
+use mathlib.Core.List.{List, ◌∷◌, ◌++◌, append_assoc, append-nil}
 use mathlib.Core.Bool.{Bool, true, false, not, ◌||◌, or-true, or-false, or_assoc, false≢true}
 use lib.Dec.{ltb}
-use lib.ListN.{length, set, drop, take, get_or, length-append, length-drop, drop_of_length-le}
-use lib.Seq.{sets, length-sets, sets-eq, drop-cons, drop_at, take-take, take-add, take-set-le, length-take-le}
+use lib.ListN.{length, drop, take, get_or, length-append, length-drop, drop_of_length-le}
+use lib.Seq.{sets, length-sets, sets-eq, drop-cons, drop_at, take-add, take-take, length-take-le}
 use borrow.Author.Tests.{lt-ltb, le-ltb, eq-eqb, ne_eqb}
 use Rattle.refusal.specs.Base.{Answer, good, refused, ◌>>=◌, ◌>>◌, ensure, ch, same}
-use Rattle.item.specs.Tree.{Yaml, seq, dict, Items, end, ◌▸◌, ◌◂◌, no_item, Entries, done, pair, add, no_entry, has_key}
-use Rattle.item.specs.Encode.{head, item, encode}
-use Rattle.item.proofs.Size.{encode-long, head-length, item-length}
+use Rattle.item.specs.Tree.{Yaml, Items, end, ◌▸◌, ◌◂◌, no_item, Entries, done, pair, add, no_entry, has_key}
+use Rattle.item.specs.Encode.{item, encode}
+use Rattle.item.proofs.Size.{encode-long, item-length}
 use Rattle.item.proofs.Same.{same_refl, same-eq, same-ne}
-use Rattle.item.proofs.Runs.{sets-append, sets-before}
+use Rattle.writer.specs.declared.Writer.{Writer}
+use Rattle.writer.specs.Writing.{cap_of, Appends, Keeps, CutsBack}
+use Rattle.writer.proofs.Laws.{appends_none, appends_more, len_appended, keeps_appended, keeps_same, keeps_more, keeps_cut}
 use Rattle.entries.specs.Entries.{Lies, key_twice}
 use Rattle.entries.proofs.Standing.{stands-part}
 use Rattle.entries.proofs.Walking.{lies-between}
 use Rattle.entries.proofs.Twice.{add-bytes}
-use Rattle.scalar.specs.declared.Role.{Role}
-use Rattle.scalar.specs.declared.Role.TheVariants.{AsValue, AsKey}
+use Rattle.scalar.specs.declared.Role.TheVariants.{AsValue}
 use Rattle.scalar.specs.Read.{Got, Reader, stop}
 use Rattle.refusal.specs.declared.Refusal.{Refusal}
 use Rattle.refusal.specs.declared.Refusal.TheVariants.{FlowMappingOpen, FlowSequenceOpen, KeyTwice, StuckSequence}
-use Rattle.scalar.specs.declared.Parsed.{Parsed}
-use Rattle.scalar.specs.declared.Parsed.TheVariants.{Done, Refused}
-use Rattle.scalar.specs.Contract.{written, is_key, Refuses, WroteValue, AgreesParsed}
-use Rattle.flow.specs.declared.PairRead.{PairRead}
-use Rattle.flow.specs.declared.PairRead.TheVariants.{Done as Took, Refused as Stopped}
-use Rattle.flow.specs.declared.End.{End}
-use Rattle.flow.specs.declared.End.TheVariants.{Closed, Refused as Halted}
+use Rattle.scalar.specs.Contract.{written, Refuses, WroteValue}
 use Rattle.flow.specs.Flow.{stuck, items, entries, fresh, value}
-use Rattle.flow.specs.Contract.{separates, skip_separators, sequence_of, flow_entries, mapping_of, entry_of, WrotePair, AgreesPair, end_of, ClosedBy, AgreesEntries}
+use Rattle.flow.specs.Contract.{separates, skip_separators, flow_items, flow_entries, entry_of, Wrote, Reads, pair_bytes, end_of, ClosedBy, ReadsEntries}
 use Rattle.flow.proofs.Progress.{Takes, first, value-takes, items-none, items-enough, entries_none, entries-enough, first-snoc, turn-less}
 use Rattle.flow.proofs.Cases.{comma-off, items-skip, items-close, items-stuck, items-item, entries-skip, entries-close, entries-entry}
 
@@ -56,37 +51,10 @@ unfolding encode no_entry
 some-entries done at p e = sym (le-ltb at p (omega arith))
 some-entries (pair k v es) at p e = sym (lt-ltb at p (omega (arith, item-length 3 k, length-append (item 3 k) (encode v ++ encode es))))
 
-as_seq : (role : Role) (ys : Items) → written role (seq ys) ≡ encode (seq ys)
-unfolding written
-as_seq AsValue ys = refl
-as_seq AsKey ys = refl
-
-as-dict : (role : Role) (es : Entries) → written role (dict es) ≡ encode (dict es)
-unfolding written
-as-dict AsValue es = refl
-as-dict AsKey es = refl
-
 first-none : (cap n : ℕ) (ys : Items) → first cap n ys ≡ 1 → length (encode ys) ≡ 0
 unfolding first encode
 first-none cap n end e = refl
 first-none cap n (y ▸ ys) e = absurd (omega arith)
-
--- a header before what it heads
-pub headed : (k : ℕ) (old out new c : List ℕ) (at p : ℕ) → out ≡ sets old (at + 6) c → p ≡ at + 6 + length c → new ≡ sets out at (head k (p - at - 6)) → new ≡ sets old at (item k c)
-unfolding item
-headed k old out new c at p b u w =
-    let e : p - at - 6 ≡ length c = omega arith in
-    w ∙ rw (e, b)
-    (ap (λ (m : ℕ). sets (sets old (at + m) c) at (head k (length c))) (sym (head-length k (length c))) ∙ sets-before (head k (length c)) c old at)
-
--- a run of stores keeps what stands before it
-pub kept-before : (n : ℕ) (l : List ℕ) (i : ℕ) (vs : List ℕ) → n ≤ i → take n (sets l i vs) ≡ take n l
-kept-before n l i [] h = refl
-kept-before n l i (v ∷ vs) h = kept-before n (set l i v) (suc i) vs (omega arith) ∙ take-set-le n l i v h
-
--- where the bytes in front of a place are kept, so are those in front of an earlier one
-pub kept_less : (m n : ℕ) (old new : List ℕ) → m ≤ n → take n new ≡ take n old → take m new ≡ take m old
-kept_less m n old new h e = sym (take-take m n new h) ∙ ap (take m) e ∙ take-take m n old h
 
 -- the rest of a line from a place on
 pub next : (s : List ℕ) (i : ℕ) → i < length s → drop i s ≡ get_or s i 0 ∷ drop (i + 1) s
@@ -95,42 +63,41 @@ next s i h = rw (add-one, drop-cons s i 0 h)
 -- ---- sequences
 
 -- the items so far, from whose end the definition goes on as from the start
-pub record Listed (s : List ℕ) (start levels n : ℕ) (old : List ℕ) (at : ℕ) (out : List ℕ) (i p : ℕ) : Type 0 where
+pub record Listed (s : List ℕ) (start levels n : ℕ) (old now : Writer) (i : ℕ) : Type 0 where
   pub got : Items
-  pub same : items (length old) n (value (length old) n levels true) (suc (length (drop start s))) end (at + 6) (drop start s)
-      ≡ items (length old) n (value (length old) n levels true) (suc (length (drop i s))) got p (drop i s)
-  pub bytes : out ≡ sets old (at + 6) (encode got)
-  pub used : p ≡ at + 6 + length (encode got)
-  pub kept : length out ≡ length old
-  pub room : p ≤ length old
+  pub same : flow_items (cap_of old) n levels old.used (drop start s)
+      ≡ items (cap_of old) n (value (cap_of old) n levels true) (suc (length (drop i s))) got now.used (drop i s)
+  pub appends : Appends old now (encode got)
   pub within : i ≤ length s
 
-pub listed_start : (s : List ℕ) (start levels n : ℕ) (old : List ℕ) (at : ℕ) → at + 6 ≤ length old → start ≤ length s → Listed s start levels n old at old start (at + 6)
-unfolding encode
-listed_start s start levels n old at r w =
-    record { got = end; same = refl; bytes = refl; used = omega arith; kept = refl; room = r; within = w }
+pub listed_start : (s : List ℕ) (start levels n : ℕ) (old : Writer) → start ≤ length s → Listed s start levels n old old start
+unfolding encode flow_items
+listed_start s start levels n old w = record { got = end; same = refl; appends = appends_none old; within = w }
 
-module _ (s : List ℕ) (start levels n : ℕ) (old : List ℕ) (at : ℕ) (out : List ℕ) (i p : ℕ) (v : Listed s start levels n old at out i p) where
+module _ (s : List ℕ) (start levels n : ℕ) (old out : Writer) (i : ℕ) (v : Listed s start levels n old out i) where
   abbrev cap : ℕ
-  cap = length old
+  cap = cap_of old
 
   abbrev inside : Reader
   inside = value cap n levels true
 
+  abbrev p : ℕ
+  p = out.used
+
+  abbrev whole : Answer (Got Items)
+  whole = flow_items cap n levels old.used (drop start s)
+
   -- separators are skipped
-  pub listed_at : (j : ℕ) → drop j s ≡ skip_separators (ltb (at + 6) p) (drop i s) → j ≤ length s → Listed s start levels n old at out j p
+  pub listed_at : (j : ℕ) → drop j s ≡ skip_separators (ltb old.used p) (drop i s) → j ≤ length s → Listed s start levels n old out j
   unfolding first
   listed_at j e w =
-      let g : not (no_item v.got) ≡ ltb (at + 6) p = some-items v.got (at + 6) p v.used in
+      let g : not (no_item v.got) ≡ ltb old.used p = some-items v.got old.used p v.appends.used in
       let k : drop j s ≡ skip_separators (not (no_item v.got)) (drop i s) = e ∙ ap (λ (b : Bool). skip_separators b (drop i s)) (sym g) in
       record {
         got = v.got;
         same = v.same ∙ items-skip cap n inside (value-takes cap n levels true) (suc (length (drop i s))) v.got p (drop i s) (omega (arith, first-most v.got))
             ∙ ap (λ (l : List ℕ). items cap n inside (suc (length l)) v.got p l) (sym k);
-        bytes = v.bytes;
-        used = v.used;
-        kept = v.kept;
-        room = v.room;
+        appends = v.appends;
         within = w;
       }
     where
@@ -138,123 +105,90 @@ module _ (s : List ℕ) (start levels n : ℕ) (old : List ℕ) (at : ℕ) (out 
       first-most end = omega arith
       first-most (y ▸ ys) = omega arith
 
-  listed-keeps : take at out ≡ take at old
-  listed-keeps = ap (take at) v.bytes ∙ kept-before at old (at + 6) (encode v.got) (omega arith)
+  pub list_open : length s ≤ i → Refuses whole old out (FlowSequenceOpen n)
+  unfolding stop
+  list_open h = record { is = v.same ∙ rw (drop_of_length-le s {i = i} h) (items-none cap n inside 1 v.got p); keeps = keeps_appended v.appends }
 
-  pub list_open : length s ≤ i → Refuses (sequence_of cap n levels at (drop start s)) old out at (FlowSequenceOpen n)
-  unfolding sequence_of ◌>>=◌ stop
-  list_open h = record { is = rw (v.same, drop_of_length-le s {i = i} h, items-none cap n inside 1 v.got p); kept = listed-keeps }
-
-  module _ (h : i < length s) (sep : separates (ltb (at + 6) p) (get_or s i 0) ≡ false) where
+  module _ (h : i < length s) (sep : separates (ltb old.used p) (get_or s i 0) ≡ false) where
     sep-got : separates (not (no_item v.got)) (get_or s i 0) ≡ false
-    sep-got = ap (λ (b : Bool). separates b (get_or s i 0)) (some-items v.got (at + 6) p v.used) ∙ sep
+    sep-got = ap (λ (b : Bool). separates b (get_or s i 0)) (some-items v.got old.used p v.appends.used) ∙ sep
 
-    here : (t : ℕ) → items cap n inside (suc (length (drop i s))) v.got p (drop i s) ≡ items cap n inside (suc (suc (length (drop (i + 1) s)))) v.got p (get_or s i 0 ∷ drop (i + 1) s)
-    here t = ap (λ (l : List ℕ). items cap n inside (suc (length l)) v.got p l) (next s i h)
+    here : items cap n inside (suc (length (drop i s))) v.got p (drop i s) ≡ items cap n inside (suc (suc (length (drop (i + 1) s)))) v.got p (get_or s i 0 ∷ drop (i + 1) s)
+    here = ap (λ (l : List ℕ). items cap n inside (suc (length l)) v.got p l) (next s i h)
 
-    pub list_close : get_or s i 0 ≡ ch "]" → (new : List ℕ) → new ≡ sets out at (head 4 (p - at - 6)) → (role : Role)
-        → WroteValue role (sequence_of cap n levels at (drop start s)) s old new at (i + 1) p false
-    unfolding sequence_of ◌>>=◌ encode is_key
-    list_close e new w role =
-        let c = items-close cap n inside (value-takes cap n levels true) (suc (length (drop (i + 1) s))) p (get_or s i 0) (drop (i + 1) s) v.got sep-got (eq-eqb (get_or s i 0) (ch "]") e) in
-        record {
-          tree = seq v.got;
-          is = rw (v.same, here 0, c);
-          bytes = headed 4 old out new (encode v.got) at p v.bytes v.used w ∙ ap (sets old at) (sym (as_seq role v.got));
-          grows = rw (as_seq role v.got) (omega (arith, v.used, item-length 4 (encode v.got)));
-          fits = v.room;
-          forward = omega arith;
-          keyed = refl;
-        }
+    pub list_close : get_or s i 0 ≡ ch "]" → Wrote {A = Items} encode whole s old out (i + 1)
+    list_close e = record {
+      got = v.got;
+      is = v.same ∙ here ∙ items-close cap n inside (value-takes cap n levels true) (suc (length (drop (i + 1) s))) p (get_or s i 0) (drop (i + 1) s) v.got sep-got (eq-eqb (get_or s i 0) (ch "]") e);
+      appends = v.appends;
+      forward = omega arith;
+    }
 
     module _ (c : get_or s i 0 ≡ ch "]" → ⊥) where
-      pub list-stuck : stuck (get_or s i 0) (drop (i + 1) s) ≡ true → Refuses (sequence_of cap n levels at (drop start s)) old out at (StuckSequence n)
-      unfolding sequence_of ◌>>=◌ stop
-      list-stuck e =
-          let k = items-stuck cap n inside (value-takes cap n levels true) (suc (length (drop (i + 1) s))) p (get_or s i 0) (drop (i + 1) s) v.got sep-got (ne_eqb (get_or s i 0) (ch "]") c) e in
-          record { is = rw (v.same, here 0, k); kept = listed-keeps }
+      pub list-stuck : stuck (get_or s i 0) (drop (i + 1) s) ≡ true → Refuses whole old out (StuckSequence n)
+      unfolding stop
+      list-stuck e = record {
+        is = v.same ∙ here ∙ items-stuck cap n inside (value-takes cap n levels true) (suc (length (drop (i + 1) s))) p (get_or s i 0) (drop (i + 1) s) v.got sep-got (ne_eqb (get_or s i 0) (ch "]") c) e;
+        keeps = keeps_appended v.appends;
+      }
 
       module _ (e : stuck (get_or s i 0) (drop (i + 1) s) ≡ false) where
         one-item : items cap n inside (suc (length (drop i s))) v.got p (drop i s)
             ≡ (inside AsValue p (drop i s) >>= λ x. items cap n inside (suc (length (drop (i + 1) s))) (v.got ◂ x.0) x.1 x.2)
         one-item =
-            here 0
+            here
             ∙ items-item cap n inside (value-takes cap n levels true) (suc (length (drop (i + 1) s))) p (get_or s i 0) (drop (i + 1) s) v.got sep-got (ne_eqb (get_or s i 0) (ch "]") c) e
             ∙ ap (λ (l : List ℕ). inside AsValue p l >>= λ x. items cap n inside (suc (length (drop (i + 1) s))) (v.got ◂ x.0) x.1 x.2) (sym (next s i h))
 
-        list-refused : (new : List ℕ) (z : Refusal) → Refuses (inside AsValue p (drop i s)) out new p z → Refuses (sequence_of cap n levels at (drop start s)) old new at z
-        unfolding sequence_of ◌>>=◌
-        list-refused new z r =
-            record { is = rw (v.same, one-item, r.is); kept = kept_less at p out new (omega (arith, v.used)) r.kept ∙ listed-keeps }
+        abbrev Item : Answer (Got Yaml)
+        Item = value (cap_of out) n levels true AsValue p (drop i s)
 
-        module _ (new : List ℕ) (j q : ℕ) (key : Bool) (w : WroteValue AsValue (inside AsValue p (drop i s)) s out new p j q key) where
+        -- the output is as long as it was
+        as-long : Item ≡ inside AsValue p (drop i s)
+        as-long = ap (λ (k : ℕ). value k n levels true AsValue p (drop i s)) (len_appended v.appends)
+
+        pub list_stops : (new : Writer) (z : Refusal) → Refuses Item out new z → Refuses whole old new z
+        unfolding ◌>>=◌
+        list_stops new z r = record { is = v.same ∙ one-item ∙ rw (← as-long, r.is); keeps = keeps_more (keeps_appended v.appends) r.keeps }
+
+        module _ (new : Writer) (j : ℕ) (key : Bool) (w : WroteValue AsValue Item s out new j key) where
           takes : Takes cap n inside
           takes = value-takes cap n levels true
 
+          got-is : inside AsValue p (drop i s) ≡ good (w.tree, new.used, drop j s)
+          got-is = sym as-long ∙ w.is
+
           left : length (drop j s) ≤ length (drop i s)
-          left = takes.some_left AsValue p (drop i s) (w.tree, q, drop j s) w.is
+          left = takes.some_left AsValue p (drop i s) (w.tree, new.used, drop j s) got-is
 
           -- an item takes a byte, or is the first
-          pub list-less : length s - j + (at + 7 - q) < length s - i + (at + 7 - p)
+          pub list_less : length s - j + (old.used + 1 - new.used) < length s - i + (old.used + 1 - p)
           unfolding written
-          list-less =
-              let grown : p < q = omega (arith, w.grows, encode-long w.tree) in
+          list_less =
+              let grown : p < new.used = omega (arith, w.appends.used, encode-long w.tree) in
               let bi : length (drop i s) ≡ length s - i = length-drop i s in
               let bj : length (drop j s) ≡ length s - j = length-drop j s in
               let bn : length (drop (i + 1) s) ≡ length s - (i + 1) = length-drop (i + 1) s in
-              let u : p ≡ at + 6 + length (encode v.got) = v.used in
+              let u : p ≡ old.used + length (encode v.got) = v.appends.used in
               let f : j ≤ length s = w.forward in
               ⊎_elim
-              (λ z. let k : length (drop j s) ≤ length (drop (i + 1) s) = takes.takes AsValue p (get_or s i 0) (drop (i + 1) s) (w.tree, q, drop j s) z (ap (inside AsValue p) (sym (next s i h)) ∙ w.is) in omega arith)
+              (λ z. let k : length (drop j s) ≤ length (drop (i + 1) s) = takes.takes AsValue p (get_or s i 0) (drop (i + 1) s) (w.tree, new.used, drop j s) z (ap (inside AsValue p) (sym (next s i h)) ∙ got-is) in omega arith)
               (λ z. let k : length (encode v.got) ≡ 0 = first-none cap n v.got z in omega (arith, left))
               (turn-less cap n (get_or s i 0) (drop (i + 1) s) v.got (ne_eqb (get_or s i 0) (ch "]") c)
               (comma-off cap n inside (value-takes cap n levels true) 0 p (get_or s i 0) (drop (i + 1) s) v.got sep-got (ne_eqb (get_or s i 0) (ch "]") c)) e)
 
-          pub listed_next : Listed s start levels n old at new j q
+          pub listed_next : Listed s start levels n old new j
           unfolding written ◌>>=◌
           listed_next =
               let z : first cap n (v.got ◂ w.tree) ≡ 0 = first-snoc cap n v.got w.tree in
               let bi : length (drop i s) ≡ suc (length (drop (i + 1) s)) = ap length (next s i h) in
               record {
                 got = v.got ◂ w.tree;
-                same = v.same ∙ one-item ∙ rw w.is
-                    (items-enough cap n inside takes (suc (length (drop (i + 1) s))) (suc (length (drop j s))) (v.got ◂ w.tree) q (drop j s) (omega (arith, left)) (omega arith));
-                bytes = w.bytes ∙ ap (λ (l : List ℕ). sets l p (encode w.tree)) v.bytes
-                    ∙ ap (λ (k : ℕ). sets (sets old (at + 6) (encode v.got)) k (encode w.tree)) v.used
-                    ∙ sets-append (encode v.got) (encode w.tree) old (at + 6) ∙ ap (sets old (at + 6)) (sym (snoc-bytes v.got w.tree));
-                used = rw (snoc-bytes v.got w.tree, length-append) (omega (arith, v.used, w.grows));
-                kept = ap length w.bytes ∙ length-sets out p (encode w.tree) ∙ v.kept;
-                room = omega (arith, w.fits, v.kept);
+                same = v.same ∙ one-item ∙ rw got-is
+                    (items-enough cap n inside takes (suc (length (drop (i + 1) s))) (suc (length (drop j s))) (v.got ◂ w.tree) new.used (drop j s) (omega (arith, left)) (omega arith));
+                appends = rw (snoc-bytes v.got w.tree) (appends_more v.appends w.appends);
                 within = w.forward;
               }
-
--- what a callee's answer says in each arm of a `match` on it
-pub wrote-is : (role : Role) (x : Answer (Got Yaml)) (s old new : List ℕ) (at : ℕ) (r : Parsed) → AgreesParsed role x s old new at r → (j u : ℕ) (key : Bool) → r ≡ Done j u key
-    → WroteValue role x s old new at j u key
-wrote-is role x s old new at r w j u key e = subst (AgreesParsed role x s old new at) e w
-
-pub refused-is : (role : Role) (x : Answer (Got Yaml)) (s old new : List ℕ) (at : ℕ) (r : Parsed) → AgreesParsed role x s old new at r → (z : Refusal) → r ≡ Refused z
-    → Refuses x old new at z
-refused-is role x s old new at r w z e = subst (AgreesParsed role x s old new at) e w
-
-module _ (s : List ℕ) (start levels n : ℕ) (old : List ℕ) (at : ℕ) (out : List ℕ) (i p : ℕ) (v : Listed s start levels n old at out i p)
-    (h : i < length s) (sep : separates (ltb (at + 6) p) (get_or s i 0) ≡ false) (c : get_or s i 0 ≡ ch "]" → ⊥) (e : stuck (get_or s i 0) (drop (i + 1) s) ≡ false)
-    (new : List ℕ) (r : Parsed) (w : AgreesParsed AsValue (value (length out) n levels true AsValue p (drop i s)) s out new p r) where
-  with-cap : AgreesParsed AsValue (value (length old) n levels true AsValue p (drop i s)) s out new p r
-  with-cap = subst (λ (k : ℕ). AgreesParsed AsValue (value k n levels true AsValue p (drop i s)) s out new p r) v.kept w
-
-  pub list-stops : (z : Refusal) → r ≡ Refused z → Refuses (sequence_of (length old) n levels at (drop start s)) old new at z
-  list-stops z q = list-refused s start levels n old at out i p v h sep c e new z (refused-is AsValue _ s out new p r with-cap z q)
-
-  module _ (j u : ℕ) (key : Bool) (q : r ≡ Done j u key) where
-    got-item : WroteValue AsValue (value (length old) n levels true AsValue p (drop i s)) s out new p j u key
-    got-item = wrote-is AsValue _ s out new p r with-cap j u key q
-
-    pub list_on : Listed s start levels n old at new j u
-    list_on = listed_next s start levels n old at out i p v h sep c e new j u key got-item
-
-    pub list-falls : length s - j + (at + 7 - u) < length s - i + (at + 7 - p)
-    list-falls = list-less s start levels n old at out i p v h sep c e new j u key got-item
 
 -- ---- entries
 
@@ -273,6 +207,10 @@ lies-kept old new at p es e h l =
     ∙ ap (drop at) (ap (λ (k : ℕ). take k new) (sym u) ∙ e ∙ ap (λ (k : ℕ). take k old) u)
     ∙ part-before old at m (omega (arith, l.stands.within))
     ∙ stands-part l.stands m refl)
+
+-- entries that stand in some bytes stand in the front of them
+pub lies_in_front : (s : List ℕ) (at p : ℕ) (es : Entries) → p ≤ length s → Lies s at p es → Lies (take p s) at p es
+lies_in_front s at p es h l = lies-kept s (take p s) at p es (take-take p p s (omega arith)) (omega (arith, length-take-le p s h)) l
 
 -- what a run of stores holds from its start on
 pub stored-front : (l vs : List ℕ) (i : ℕ) → i + length vs ≤ length l → drop i (sets l i vs) ≡ vs ++ drop (i + length vs) l
@@ -326,175 +264,128 @@ judged-on cap n es k v x = go (key_twice es) (has_key k es) ∙ ap (λ (b : Bool
     go false false = refl
 
 -- the entries so far: if no key stands twice, the definition goes on from their end as from the start
-pub record Mapped (s : List ℕ) (start levels n : ℕ) (old : List ℕ) (at : ℕ) (out : List ℕ) (i p : ℕ) : Type 0 where
+pub record Mapped (s : List ℕ) (start levels n : ℕ) (old now : Writer) (i : ℕ) : Type 0 where
   pub got : Entries
-  pub same : flow_entries (length old) n levels at (drop start s)
-      ≡ (if key_twice got then refused 18 n 0 else entries (length old) n (value (length old) n levels true) (suc (length (drop i s))) got p (drop i s))
-  pub bytes : out ≡ sets old at (encode got)
-  pub used : p ≡ at + length (encode got)
-  pub kept : length out ≡ length old
-  pub room : p ≤ length old
+  pub same : flow_entries (cap_of old) n levels old.used (drop start s)
+      ≡ (if key_twice got then refused 18 n 0 else entries (cap_of old) n (value (cap_of old) n levels true) (suc (length (drop i s))) got now.used (drop i s))
+  pub appends : Appends old now (encode got)
   pub within : i ≤ length s
 
-pub mapped-start : (s : List ℕ) (start levels n : ℕ) (old : List ℕ) (at : ℕ) → at ≤ length old → start ≤ length s → Mapped s start levels n old at old start at
+pub mapped_start : (s : List ℕ) (start levels n : ℕ) (old : Writer) → start ≤ length s → Mapped s start levels n old old start
 unfolding encode flow_entries key_twice
-mapped-start s start levels n old at r w =
-    record { got = done; same = refl; bytes = refl; used = omega arith; kept = refl; room = r; within = w }
+mapped_start s start levels n old w = record { got = done; same = refl; appends = appends_none old; within = w }
 
-module _ (s : List ℕ) (start levels n : ℕ) (old : List ℕ) (at : ℕ) (out : List ℕ) (i p : ℕ) (v : Mapped s start levels n old at out i p) where
+module _ (s : List ℕ) (start levels n : ℕ) (old out : Writer) (i : ℕ) (v : Mapped s start levels n old out i) where
   abbrev mcap : ℕ
-  mcap = length old
+  mcap = cap_of old
 
   abbrev minside : Reader
   minside = value mcap n levels true
 
-  abbrev Told : End → List ℕ → Type 0
-  Told e new = AgreesEntries (flow_entries mcap n levels at (drop start s)) n s old new at p e
+  abbrev mp : ℕ
+  mp = out.used
+
+  abbrev Told : Result ℕ Refusal → Writer → Type 0
+  Told e new = ReadsEntries (flow_entries mcap n levels old.used (drop start s)) n s old new e
 
   mtakes : Takes mcap n minside
   mtakes = value-takes mcap n levels true
 
-  judged : (x : Answer (Got Entries)) → entries mcap n minside (suc (length (drop i s))) v.got p (drop i s) ≡ x
-      → flow_entries mcap n levels at (drop start s) ≡ (if key_twice v.got then refused 18 n 0 else x)
+  judged : (x : Answer (Got Entries)) → entries mcap n minside (suc (length (drop i s))) v.got mp (drop i s) ≡ x
+      → flow_entries mcap n levels old.used (drop start s) ≡ (if key_twice v.got then refused 18 n 0 else x)
   judged x e = v.same ∙ ap (λ (a : Answer (Got Entries)). if key_twice v.got then refused 18 n 0 else a) e
 
-  pub mapped_at : (j : ℕ) → drop j s ≡ skip_separators (ltb at p) (drop i s) → j ≤ length s → Mapped s start levels n old at out j p
+  pub mapped_at : (j : ℕ) → drop j s ≡ skip_separators (ltb old.used mp) (drop i s) → j ≤ length s → Mapped s start levels n old out j
   mapped_at j e w =
-      let g : not (no_entry v.got) ≡ ltb at p = some-entries v.got at p v.used in
+      let g : not (no_entry v.got) ≡ ltb old.used mp = some-entries v.got old.used mp v.appends.used in
       let k : drop j s ≡ skip_separators (not (no_entry v.got)) (drop i s) = e ∙ ap (λ (b : Bool). skip_separators b (drop i s)) (sym g) in
       record {
         got = v.got;
-        same = judged _ (entries-skip mcap n minside mtakes (suc (length (drop i s))) v.got p (drop i s) (omega arith)
-            ∙ ap (λ (l : List ℕ). entries mcap n minside (suc (length l)) v.got p l) (sym k));
-        bytes = v.bytes;
-        used = v.used;
-        kept = v.kept;
-        room = v.room;
+        same = judged _ (entries-skip mcap n minside mtakes (suc (length (drop i s))) v.got mp (drop i s) (omega arith)
+            ∙ ap (λ (l : List ℕ). entries mcap n minside (suc (length l)) v.got mp l) (sym k));
+        appends = v.appends;
         within = w;
       }
 
-  ends-here : (e : End) (new : List ℕ) → entries mcap n minside (suc (length (drop i s))) v.got p (drop i s) ≡ end_of s p v.got e
-      → take p new ≡ take p out → length new ≡ length out → ClosedBy s old new at v.got e → Told e new
-  ends-here e new is k l c = record {
+  ends-here : (e : Result ℕ Refusal) (new : Writer) → entries mcap n minside (suc (length (drop i s))) v.got mp (drop i s) ≡ end_of s mp v.got e
+      → Keeps out new → new.used ≡ mp → ClosedBy s old new v.got e → Told e new
+  ends-here e new is k u c = record {
     got = v.got;
-    is = judged _ is;
-    lies = lies-kept out new at p v.got k (omega (arith, v.kept, v.room)) (rw v.bytes (lies-stored old at p v.got v.used v.room));
-    kept = kept_less at p out new (omega (arith, v.used)) k ∙ ap (take at) v.bytes ∙ kept-before at old at (encode v.got) (omega arith);
+    is = judged _ is ∙ ap (λ (x : ℕ). if key_twice v.got then refused 18 n 0 else end_of s x v.got e) (sym u);
+    keeps = keeps_more (keeps_appended v.appends) k;
+    lies = rw u (lies-kept out.out.now new.out.now old.used mp v.got k.kept (omega (arith, new.within))
+        (subst (λ (l : List ℕ). Lies l old.used mp v.got) (sym v.appends.out) (lies-stored old.out.now old.used mp v.got v.appends.used (omega (arith, out.within, len_appended v.appends)))));
     closed = c;
   }
 
-  pub map-open : length s ≤ i → Told (Halted (FlowMappingOpen n)) out
+  pub map-open : length s ≤ i → Told (Err (FlowMappingOpen n)) out
   unfolding stop
-  map-open h = ends-here (Halted (FlowMappingOpen n)) out (rw (drop_of_length-le s {i = i} h, entries_none mcap n minside 1 v.got p)) refl refl tt
+  map-open h = ends-here (Err (FlowMappingOpen n)) out (rw (drop_of_length-le s {i = i} h, entries_none mcap n minside 1 v.got mp)) (keeps_same refl) refl tt
 
-  module _ (h : i < length s) (sep : separates (ltb at p) (get_or s i 0) ≡ false) where
+  module _ (h : i < length s) (sep : separates (ltb old.used mp) (get_or s i 0) ≡ false) where
     msep : separates (not (no_entry v.got)) (get_or s i 0) ≡ false
-    msep = ap (λ (b : Bool). separates b (get_or s i 0)) (some-entries v.got at p v.used) ∙ sep
+    msep = ap (λ (b : Bool). separates b (get_or s i 0)) (some-entries v.got old.used mp v.appends.used) ∙ sep
 
-    mhere : entries mcap n minside (suc (length (drop i s))) v.got p (drop i s) ≡ entries mcap n minside (suc (suc (length (drop (i + 1) s)))) v.got p (get_or s i 0 ∷ drop (i + 1) s)
-    mhere = ap (λ (l : List ℕ). entries mcap n minside (suc (length l)) v.got p l) (next s i h)
+    mhere : entries mcap n minside (suc (length (drop i s))) v.got mp (drop i s) ≡ entries mcap n minside (suc (suc (length (drop (i + 1) s)))) v.got mp (get_or s i 0 ∷ drop (i + 1) s)
+    mhere = ap (λ (l : List ℕ). entries mcap n minside (suc (length l)) v.got mp l) (next s i h)
 
-    pub map-close : get_or s i 0 ≡ ch "}" → Told (Closed (i + 1)) out
-    map-close e = ends-here (Closed (i + 1)) out
-        (mhere ∙ entries-close mcap n minside mtakes (suc (length (drop (i + 1) s))) p (get_or s i 0) (drop (i + 1) s) v.got msep (eq-eqb (get_or s i 0) (ch "}") e))
-        refl refl (omega arith, v.bytes)
+    pub map-close : get_or s i 0 ≡ ch "}" → Told (Ok (i + 1)) out
+    map-close e = ends-here (Ok (i + 1)) out
+        (mhere ∙ entries-close mcap n minside mtakes (suc (length (drop (i + 1) s))) mp (get_or s i 0) (drop (i + 1) s) v.got msep (eq-eqb (get_or s i 0) (ch "}") e))
+        (keeps_same refl) refl (omega arith, v.appends)
 
     module _ (c : get_or s i 0 ≡ ch "}" → ⊥) where
-      one_entry : entries mcap n minside (suc (length (drop i s))) v.got p (drop i s)
-          ≡ (entry_of mcap n minside p (drop i s)
+      one_entry : entries mcap n minside (suc (length (drop i s))) v.got mp (drop i s)
+          ≡ (entry_of mcap n minside mp (drop i s)
           >>= λ x. fresh mcap n x.0.0 v.got >> entries mcap n minside (suc (length (drop (i + 1) s))) (add v.got x.0.0 x.0.1) x.1 x.2)
       one_entry =
           mhere
-          ∙ entries-entry mcap n minside mtakes (suc (length (drop (i + 1) s))) p (get_or s i 0) (drop (i + 1) s) v.got msep (ne_eqb (get_or s i 0) (ch "}") c)
-          ∙ ap (λ (l : List ℕ). entry_of mcap n minside p l
+          ∙ entries-entry mcap n minside mtakes (suc (length (drop (i + 1) s))) mp (get_or s i 0) (drop (i + 1) s) v.got msep (ne_eqb (get_or s i 0) (ch "}") c)
+          ∙ ap (λ (l : List ℕ). entry_of mcap n minside mp l
           >>= λ x. fresh mcap n x.0.0 v.got >> entries mcap n minside (suc (length (drop (i + 1) s))) (add v.got x.0.0 x.0.1) x.1 x.2) (sym (next s i h))
 
-      map-refused : (new : List ℕ) (z : Refusal) → length new ≡ length out → Refuses (entry_of mcap n minside p (drop i s)) out new p z → Told (Halted z) new
+      abbrev Entry : Answer (Got (List ℕ × Yaml))
+      Entry = entry_of (cap_of out) n (value (cap_of out) n levels true) mp (drop i s)
+
+      entry-long : Entry ≡ entry_of mcap n minside mp (drop i s)
+      entry-long = ap (λ (k : ℕ). entry_of k n (value k n levels true) mp (drop i s)) (len_appended v.appends)
+
+      -- an entry that is refused is taken back
+      pub map_stops : (mid new : Writer) (z : Refusal) → Refuses Entry out mid z → CutsBack mid new mp → Told (Err z) new
       unfolding ◌>>=◌
-      map-refused new z l r = ends-here (Halted z) new (one_entry ∙ rw r.is) r.kept l tt
+      map_stops mid new z r b = ends-here (Err z) new (one_entry ∙ rw (← entry-long, r.is)) (keeps_cut r.keeps b) b.used tt
 
-      module _ (new : List ℕ) (j q : ℕ) (w : WrotePair (entry_of mcap n minside p (drop i s)) s out new i p j q) where
-        one : List ℕ
-        one = item 3 w.key ++ encode w.tree
-
-        new_is : new ≡ sets old at (encode (add v.got w.key w.tree))
-        unfolding one
-        new_is =
-            w.bytes ∙ ap (λ (l : List ℕ). sets l p one) v.bytes ∙ ap (λ (k : ℕ). sets (sets old at (encode v.got)) k one) v.used
-            ∙ sets-append (encode v.got) one old at ∙ ap (sets old at) (sym (add-bytes v.got w.key w.tree))
-
-        mapped_next : Mapped s start levels n old at new j q
-        unfolding one ◌>>=◌
-        mapped_next =
-            let bj : length (drop j s) ≡ length s - j = length-drop j s in
-            let bn : length (drop (i + 1) s) ≡ length s - (i + 1) = length-drop (i + 1) s in
-            let es : Entries = add v.got w.key w.tree in
-            record {
-              got = es;
-              same = judged _ (one_entry ∙ rw w.is) ∙ judged-on mcap n v.got w.key w.tree _
-                  ∙ ap (λ (a : Answer (Got Entries)). if key_twice es then refused 18 n 0 else a)
-                  (entries-enough mcap n minside mtakes (suc (length (drop (i + 1) s))) (suc (length (drop j s))) es q (drop j s) (omega (arith, w.on)) (omega arith));
-              bytes = new_is;
-              used = rw (add-bytes v.got w.key w.tree, length-append) (omega (arith, v.used, w.grows));
-              kept = ap length new_is ∙ length-sets old at (encode es);
-              room = omega (arith, w.fits, v.kept);
-              within = w.forward;
-            }
-
-module _ (s : List ℕ) (start levels n : ℕ) (old : List ℕ) (at : ℕ) (out : List ℕ) (i p : ℕ) (v : Mapped s start levels n old at out i p)
-    (h : i < length s) (sep : separates (ltb at p) (get_or s i 0) ≡ false) (c : get_or s i 0 ≡ ch "}" → ⊥)
-    (new : List ℕ) (r : PairRead) (w : AgreesPair (entry_of (length out) n (value (length out) n levels true) p (drop i s)) s out new i p r) where
-  entry-cap : AgreesPair (entry_of (length old) n (value (length old) n levels true) p (drop i s)) s out new i p r
-  entry-cap = subst (λ (k : ℕ). AgreesPair (entry_of k n (value k n levels true) p (drop i s)) s out new i p r) v.kept w
-
-  pub map-stops : (z : Refusal) → r ≡ Stopped z → length new ≡ length out → AgreesEntries (flow_entries (length old) n levels at (drop start s)) n s old new at p (Halted z)
-  map-stops z q l =
-      map-refused s start levels n old at out i p v h sep c new z l
-      (subst (AgreesPair (entry_of (length old) n (value (length old) n levels true) p (drop i s)) s out new i p) q entry-cap)
-
-  module _ (j u : ℕ) (q : r ≡ Took j u) where
-    pub got-entry : WrotePair (entry_of (length old) n (value (length old) n levels true) p (drop i s)) s out new i p j u
-    got-entry = subst (AgreesPair (entry_of (length old) n (value (length old) n levels true) p (drop i s)) s out new i p) q entry-cap
-
-    pub map_on : Mapped s start levels n old at new j u
-    map_on = mapped_next s start levels n old at out i p v h sep c new j u got-entry
+      pub mapped_next : (new : Writer) (j : ℕ) → Wrote pair_bytes Entry s out new j → i < j → Mapped s start levels n old new j
+      unfolding ◌>>=◌
+      mapped_next new j w on =
+          let bj : length (drop j s) ≡ length s - j = length-drop j s in
+          let bn : length (drop (i + 1) s) ≡ length s - (i + 1) = length-drop (i + 1) s in
+          let k : List ℕ = w.got.0 in
+          let y : Yaml = w.got.1 in
+          let es : Entries = add v.got k y in
+          let f : j ≤ length s = w.forward in
+          record {
+            got = es;
+            same = judged _ (one_entry ∙ rw (← entry-long, w.is)) ∙ judged-on mcap n v.got k y _
+                ∙ ap (λ (a : Answer (Got Entries)). if key_twice es then refused 18 n 0 else a)
+                (entries-enough mcap n minside mtakes (suc (length (drop (i + 1) s))) (suc (length (drop j s))) es new.used (drop j s) (omega arith) (omega arith));
+            appends = rw (add-bytes v.got k y) (appends_more v.appends w.appends);
+            within = w.forward;
+          }
 
 -- ---- a mapping, once its entries are read and judged
 
-module _ (s : List ℕ) (start levels n : ℕ) (old : List ℕ) (at : ℕ) (out : List ℕ) (used : ℕ) (e : End)
-    (v : AgreesEntries (flow_entries (length old) n levels (at + 6) (drop start s)) n s old out (at + 6) used e)
-    (found : Bool) (k : (es : Entries) → Lies out (at + 6) used es → found ≡ key_twice es) where
+module _ (s : List ℕ) (answer : Answer (Got Entries)) (n : ℕ) (old out : Writer) (e : Result ℕ Refusal) (v : ReadsEntries answer n s old out e)
+    (found : Bool) (k : (es : Entries) → Lies out.out.now old.used out.used es → found ≡ key_twice es) where
   decided : found ≡ key_twice v.got
   decided = k v.got v.lies
 
-  mapping-keeps : take at out ≡ take at old
-  mapping-keeps = kept_less at (at + 6) old out (omega arith) v.kept
+  pub mapping_twice : found ≡ true → Refuses answer old out (KeyTwice n)
+  mapping_twice t = record { is = rw (v.is, ← decided, t); keeps = v.keeps }
 
-  pub mapping-twice : found ≡ true → Refuses (mapping_of (length old) n levels at (drop start s)) old out at (KeyTwice n)
-  unfolding mapping_of ◌>>=◌
-  mapping-twice t = record { is = rw (v.is, ← decided, t); kept = mapping-keeps }
-
-  module _ (f : found ≡ false) where
-    mapping-is : mapping_of (length old) n levels at (drop start s) ≡ (end_of s used v.got e >>= λ x. good (dict x.0, x.1, x.2))
-    unfolding mapping_of
-    mapping-is = rw (v.is, ← decided, f)
-
-    pub mapping-stops : (z : Refusal) → e ≡ Halted z → Refuses (mapping_of (length old) n levels at (drop start s)) old out at z
-    unfolding ◌>>=◌
-    mapping-stops z q = record { is = mapping-is ∙ rw q; kept = mapping-keeps }
-
-    pub mapping-done : (j : ℕ) → e ≡ Closed j → (new : List ℕ) → new ≡ sets out at (head 5 (used - at - 6)) → (role : Role)
-        → WroteValue role (mapping_of (length old) n levels at (drop start s)) s old new at j used false
-    unfolding ◌>>=◌ encode is_key
-    mapping-done j q new w role =
-        let c : ClosedBy s old out (at + 6) v.got (Closed j) = subst (ClosedBy s old out (at + 6) v.got) q v.closed in
-        let u : used ≡ at + 6 + length (encode v.got) = v.lies.ends in
-        record {
-          tree = dict v.got;
-          is = mapping-is ∙ rw q;
-          bytes = headed 5 old out new (encode v.got) at used c.1 u w ∙ ap (sets old at) (sym (as-dict role v.got));
-          grows = rw (as-dict role v.got) (omega (arith, u, item-length 5 (encode v.got)));
-          fits = omega (arith, u, v.lies.stands.within, ap length c.1 ∙ length-sets old (at + 6) (encode v.got));
-          forward = c.0;
-          keyed = refl;
-        }
+  pub mapping_done : found ≡ false → Reads {A = Entries} encode answer s old out e
+  mapping_done f = go e v.closed (rw (← decided, f) at v.is)
+    where
+      go : (e : Result ℕ Refusal) → ClosedBy s old out v.got e → answer ≡ end_of s out.used v.got e → Reads {A = Entries} encode answer s old out e
+      go (Ok j) c q = record { got = v.got; is = q; appends = c.1; forward = c.0 }
+      go (Err z) c q = record { is = q; keeps = v.keeps }

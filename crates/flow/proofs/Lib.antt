@@ -1,4 +1,3 @@
-pub mod Ends
 pub mod Examples
 pub mod Progress
 pub mod Cases

@@ -1,42 +1,53 @@
 -- What a value and an entry come to, by the bytes at their places. Assumes nothing.
-use mathlib.Core.Path.{◌≡◌, refl, sym, ap, ◌∙◌, subst}
-use mathlib.Core.Logic.{◌⊎◌, ⊎_elim}
+use Rattle.std.specs.Prelude.{Result, Ok, Err}
+use mathlib.Core.Path.{◌≡◌, refl, sym, ap, ◌∙◌}
+use mathlib.Core.Logic.{◌⊎◌, inl, inr, ⊎_elim}
 use Prim.Native.Nat.{ℕ, zero, suc, ◌+◌, ◌-◌, ◌≤◌, ◌<◌}
 use native.Mathlib.Omega.{arith}
 use mathlib.Core.List.{List, ◌∷◌}
 use mathlib.Core.Bool.{Bool, true, false, false≢true}
 use mathlib.Core.Option.{none, some}
-use lib.ListN.{length, take, drop, get_or, length-append, length-drop, drop_of_length-le}
-use lib.Seq.{sets, length-sets}
+use lib.ListN.{length, drop, get_or, length-drop, drop_of_length-le}
 use borrow.Author.Tests.{eq-eqb, ne_eqb, le-leb, lt-leb}
-use Rattle.refusal.specs.Base.{Answer, good, refused, ◌>>=◌, given, ch}
+use Rattle.refusal.specs.Base.{Answer, good, refused, ◌>>=◌, ◌>>◌, ensure, given, ch, empty}
 use Rattle.refusal.specs.declared.Refusal.{Refusal}
-use Rattle.refusal.specs.declared.Refusal.TheVariants.{KeyNotScalar, KeyWithoutColon}
-use Rattle.item.specs.Tree.{Yaml, null, bool, int, str, seq, dict}
-use Rattle.item.specs.Encode.{item, encode}
-use Rattle.item.proofs.Runs.{sets-append}
+use Rattle.refusal.specs.declared.Refusal.TheVariants.{KeyNotScalar, KeyWithoutColon, TextAfterValue}
+use Rattle.item.specs.Tree.{Yaml, null, bool, int, str, seq, dict, Items, Entries}
+use Rattle.item.specs.Encode.{head, item, encode}
+use Rattle.writer.specs.declared.Writer.{Writer}
+use Rattle.writer.specs.Writing.{cap_of, Appends, Begins, Fills}
+use Rattle.writer.proofs.Laws.{appends_more, filled, len_appended, keeps_appended, keeps_begun, keeps_more}
 use Rattle.number.specs.Integers.{int_text}
 use Rattle.scalar.specs.declared.Role.{Role}
 use Rattle.scalar.specs.declared.Role.TheVariants.{AsValue, AsKey}
 use Rattle.scalar.specs.declared.Parsed.{Parsed}
-use Rattle.scalar.specs.declared.Parsed.TheVariants.{Done, Refused}
 use Rattle.scalar.specs.Scalars.{key_text, bool_text}
 use Rattle.scalar.specs.Read.{Got, charge, stop, scalar, skip_spaces, string, double_quoted, single_quoted, plain}
-use Rattle.scalar.specs.Contract.{written, is_key, Refuses, WroteValue, AgreesParsed}
-use Rattle.flow.specs.Flow.{behind_colon, entry_value, flow_seq, flow_map, node, value}
-use Rattle.flow.specs.Contract.{separates, skip_separators, levels_inside, sequence_of, flow_entries, mapping_of, entry_of, WrotePair}
+use Rattle.scalar.specs.Contract.{written, is_key, Refuses, WroteValue, ReadsValue}
+use Rattle.flow.specs.Flow.{behind_colon, entry_value, flow_seq, flow_map, node, value, flow}
+use Rattle.flow.specs.Contract.{separates, skip_separators, leaves_out, levels_inside, flow_items, flow_entries, entry_of, Wrote, pair_bytes, WroteWhole}
 use Rattle.flow.proofs.Progress.{Takes, value-takes, entry_value-le}
-use Rattle.flow.proofs.Invariants.{kept-before, kept_less, next, wrote-is, refused-is}
+use Rattle.flow.proofs.Invariants.{next}
 
-pub agrees-of : (role : Role) (x y : Answer (Got Yaml)) (s old new : List ℕ) (at : ℕ) (r : Parsed) → x ≡ y → AgreesParsed role y s old new at r → AgreesParsed role x s old new at r
-agrees-of role x y s old new at (Done n u k) e w =
-    record { tree = w.tree; is = e ∙ w.is; bytes = w.bytes; grows = w.grows; fits = w.fits; forward = w.forward; keyed = w.keyed }
-agrees-of role x y s old new at (Refused z) e w = record { is = e ∙ w.is; kept = w.kept }
+-- a reader's answer in the words of another definition
+pub reads_as : (role : Role) (x y : Answer (Got Yaml)) (s : List ℕ) (old new : Writer) (r : Result Parsed Refusal) → x ≡ y → ReadsValue role y s old new r → ReadsValue role x s old new r
+reads_as role x y s old new (Ok p) e w = record { tree = w.tree; is = e ∙ w.is; appends = w.appends; forward = w.forward; keyed = w.keyed }
+reads_as role x y s old new (Err z) e w = record { is = e ∙ w.is; keeps = w.keeps }
 
 value-node : (cap n levels : ℕ) (in_flow : Bool) (role : Role) (sum : ℕ) (bs : List ℕ) → value cap n levels in_flow role sum bs ≡ node cap n (levels_inside cap n levels) in_flow role sum bs
 unfolding value levels_inside
 value-node cap n zero in_flow role sum bs = refl
 value-node cap n (suc levels) in_flow role sum bs = refl
+
+as_seq : (role : Role) (ys : Items) → written role (seq ys) ≡ encode (seq ys)
+unfolding written
+as_seq AsValue ys = refl
+as_seq AsKey ys = refl
+
+as_dict : (role : Role) (es : Entries) → written role (dict es) ≡ encode (dict es)
+unfolding written
+as_dict AsValue es = refl
+as_dict AsKey es = refl
 
 -- ---- a value, by its first byte
 
@@ -71,26 +82,39 @@ module _ (s : List ℕ) (i cap n levels : ℕ) (in_flow : Bool) (role : Role) (s
     unfolding node
     value-single e = at ∙ rw e
 
-    pub value-anchor : b ≡ ch "&" → it ≡ refused 7 n 0
+    pub value-anchor : (b ≡ ch "!") ⊎ ((b ≡ ch "&") ⊎ (b ≡ ch "*")) → it ≡ refused 7 n 0
     unfolding node stop
-    value-anchor e = at ∙ rw e
+    value-anchor (inl e) = at ∙ rw e
+    value-anchor (inr (inl e)) = at ∙ rw e
+    value-anchor (inr (inr e)) = at ∙ rw e
 
-    pub value-alias : b ≡ ch "*" → it ≡ refused 7 n 0
-    unfolding node stop
-    value-alias e = at ∙ rw e
-
-    pub value-tag : b ≡ ch "!" → it ≡ refused 7 n 0
-    unfolding node stop
-    value-tag e = at ∙ rw e
-
-    pub value-plain : (b ≡ ch "{" → ⊥) → (b ≡ ch "[" → ⊥) → (b ≡ ch "\"" → ⊥) → (b ≡ ch "'" → ⊥) → (b ≡ ch "&" → ⊥) → (b ≡ ch "*" → ⊥) → (b ≡ ch "!" → ⊥)
+    pub value-plain : ((b ≡ ch "[") ⊎ (b ≡ ch "{") → ⊥) → (b ≡ ch "\"" → ⊥) → (b ≡ ch "'" → ⊥) → ((b ≡ ch "!") ⊎ ((b ≡ ch "&") ⊎ (b ≡ ch "*")) → ⊥)
         → it ≡ plain cap n in_flow role sum (drop i s)
     unfolding node
-    value-plain e₁ e₂ e₃ e₄ e₅ e₆ e₇ =
-        at ∙ rw (ne_eqb b (ch "{") e₁, ne_eqb b (ch "[") e₂, ne_eqb b (ch "\"") e₃, ne_eqb b (ch "'") e₄, ne_eqb b (ch "&") e₅, ne_eqb b (ch "*") e₆, ne_eqb b (ch "!") e₇)
+    value-plain o d q a =
+        at ∙ rw (
+          ne_eqb b (ch "{") (λ e. o (inr e)),
+          ne_eqb b (ch "[") (λ e. o (inl e)),
+          ne_eqb b (ch "\"") d,
+          ne_eqb b (ch "'") q,
+          ne_eqb b (ch "&") (λ e. a (inr (inl e))),
+          ne_eqb b (ch "*") (λ e. a (inr (inr e))),
+          ne_eqb b (ch "!") (λ e. a (inl e)),
+        )
         (ap (plain cap n in_flow role sum) (sym (next s i h)))
 
 -- ---- a collection that opens
+
+-- the sequence behind a `[`, where `sum` bytes were used before it, and the mapping behind a `{`
+unfoldable pub sequence_of : ℕ → ℕ → ℕ → ℕ → List ℕ → Answer (Got Yaml)
+sequence_of cap n levels sum bs = do
+  (ys, sum₁, rest) ← flow_items cap n levels (sum + 6) bs
+  good (seq ys, sum₁, rest)
+
+unfoldable pub mapping_of : ℕ → ℕ → ℕ → ℕ → List ℕ → Answer (Got Yaml)
+mapping_of cap n levels sum bs = do
+  (es, sum₁, rest) ← flow_entries cap n levels (sum + 6) bs
+  good (dict es, sum₁, rest)
 
 module _ (cap n sum : ℕ) (bs : List ℕ) where
   deep : (levels : ℕ) → levels ≡ 0 → (flow_seq cap n (levels_inside cap n levels) sum bs ≡ refused 20 n 0) × (flow_map cap n (levels_inside cap n levels) sum bs ≡ refused 20 n 0)
@@ -106,16 +130,16 @@ module _ (cap n sum : ℕ) (bs : List ℕ) where
 
   opens : (levels : ℕ) → (levels ≡ 0 → ⊥) → sum + 6 ≤ cap
       → (flow_seq cap n (levels_inside cap n levels) sum bs ≡ sequence_of cap n (levels - 1) sum bs) × (flow_map cap n (levels_inside cap n levels) sum bs ≡ mapping_of cap n (levels - 1) sum bs)
-  unfolding flow_seq flow_map levels_inside charge ◌>>=◌ sequence_of flow_entries mapping_of
+  unfolding flow_seq flow_map levels_inside charge ◌>>=◌ sequence_of flow_items flow_entries mapping_of
   opens zero z h = absurd (z refl)
   opens (suc levels) z h = let e : suc levels - 1 ≡ levels = omega arith in (rw (le-leb (sum + 6) cap h, e), rw (le-leb (sum + 6) cap h, e))
+
+abbrev pub Bracket : List ℕ → ℕ → Type 0
+Bracket s i = (get_or s i 0 ≡ ch "{") ⊎ (get_or s i 0 ≡ ch "[")
 
 module _ (s : List ℕ) (i cap n levels : ℕ) (in_flow : Bool) (role : Role) (sum : ℕ) (h : i < length s) where
   abbrev opened : Answer (Got Yaml)
   opened = value cap n levels in_flow role sum (drop i s)
-
-  abbrev Bracket : Type 0
-  Bracket = (get_or s i 0 ≡ ch "{") ⊎ (get_or s i 0 ≡ ch "[")
 
   map_is : get_or s i 0 ≡ ch "{" → opened ≡ flow_map cap n (levels_inside cap n levels) sum (drop (i + 1) s)
   map_is = value-map s i cap n levels in_flow role sum h
@@ -123,17 +147,72 @@ module _ (s : List ℕ) (i cap n levels : ℕ) (in_flow : Bool) (role : Role) (s
   seq-is : get_or s i 0 ≡ ch "[" → opened ≡ flow_seq cap n (levels_inside cap n levels) sum (drop (i + 1) s)
   seq-is = value-seq s i cap n levels in_flow role sum h
 
-  pub value-deep : Bracket → levels ≡ 0 → opened ≡ refused 20 n 0
+  pub value-deep : Bracket s i → levels ≡ 0 → opened ≡ refused 20 n 0
   value-deep k z = let d = deep cap n sum (drop (i + 1) s) levels z in ⊎_elim (λ e. map_is e ∙ d.1) (λ e. seq-is e ∙ d.0) k
 
-  pub value-full : Bracket → (levels ≡ 0 → ⊥) → cap < sum + 6 → opened ≡ refused 50 0 0
+  pub value-full : Bracket s i → (levels ≡ 0 → ⊥) → cap < sum + 6 → opened ≡ refused 50 0 0
   value-full k z l = let d = full cap n sum (drop (i + 1) s) levels z l in ⊎_elim (λ e. map_is e ∙ d.1) (λ e. seq-is e ∙ d.0) k
 
   pub value-mapping : get_or s i 0 ≡ ch "{" → (levels ≡ 0 → ⊥) → sum + 6 ≤ cap → opened ≡ mapping_of cap n (levels - 1) sum (drop (i + 1) s)
   value-mapping e z l = map_is e ∙ (opens cap n sum (drop (i + 1) s) levels z l).1
 
-  pub value-sequence : Bracket → (get_or s i 0 ≡ ch "{" → ⊥) → (levels ≡ 0 → ⊥) → sum + 6 ≤ cap → opened ≡ sequence_of cap n (levels - 1) sum (drop (i + 1) s)
+  pub value-sequence : Bracket s i → (get_or s i 0 ≡ ch "{" → ⊥) → (levels ≡ 0 → ⊥) → sum + 6 ≤ cap → opened ≡ sequence_of cap n (levels - 1) sum (drop (i + 1) s)
   value-sequence k o z l = ⊎_elim (λ e. absurd (o e)) (λ e. seq-is e ∙ (opens cap n sum (drop (i + 1) s) levels z l).0) k
+
+-- a collection whose header is filled in behind its content
+module _ (s : List ℕ) (i n levels : ℕ) (in_flow : Bool) (role : Role) (a b : Writer) (header : ℕ) (p : Begins a b header) (h : i < length s) (deep : levels ≡ 0 → ⊥) where
+  abbrev it_is : Answer (Got Yaml)
+  it_is = value (cap_of a) n levels in_flow role a.used (drop i s)
+
+  abbrev bs : List ℕ
+  bs = drop (i + 1) s
+
+  fits : a.used + 6 ≤ cap_of a
+  fits = omega (arith, b.within, p.used, ap length p.out)
+
+  items-there : flow_items (cap_of b) n (levels - 1) b.used bs ≡ flow_items (cap_of a) n (levels - 1) (a.used + 6) bs
+  items-there = ap (λ (l : List ℕ). flow_items (length l) n (levels - 1) b.used bs) p.out ∙ ap (λ (k : ℕ). flow_items (cap_of a) n (levels - 1) k bs) p.used
+
+  entries-there : flow_entries (cap_of b) n (levels - 1) b.used bs ≡ flow_entries (cap_of a) n (levels - 1) (a.used + 6) bs
+  entries-there = ap (λ (l : List ℕ). flow_entries (length l) n (levels - 1) b.used bs) p.out ∙ ap (λ (k : ℕ). flow_entries (cap_of a) n (levels - 1) k bs) p.used
+
+  module _ (e : get_or s i 0 ≡ ch "{") where
+    is-map : it_is ≡ mapping_of (cap_of a) n (levels - 1) a.used bs
+    is-map = value-mapping s i (cap_of a) n levels in_flow role a.used h e deep fits
+
+    pub mapping_stops : (c : Writer) (z : Refusal) → Refuses (flow_entries (cap_of b) n (levels - 1) b.used bs) b c z → Refuses it_is a c z
+    unfolding mapping_of ◌>>=◌
+    mapping_stops c z r = record { is = is-map ∙ rw (← entries-there, r.is); keeps = keeps_more (keeps_begun p) r.keeps }
+
+    pub mapping_wrote : (c d : Writer) (next : ℕ) → Wrote {A = Entries} encode (flow_entries (cap_of b) n (levels - 1) b.used bs) s b c next
+        → Fills c d header (head 5 (c.used - (header + 6))) → WroteValue role it_is s a d next false
+    unfolding mapping_of ◌>>=◌ encode is_key
+    mapping_wrote c d next w f = record {
+      tree = dict w.got;
+      is = is-map ∙ rw (← entries-there, w.is, f.used);
+      appends = rw (as_dict role w.got) (filled 5 p w.appends f);
+      forward = w.forward;
+      keyed = refl;
+    }
+
+  module _ (k : Bracket s i) (e : get_or s i 0 ≡ ch "{" → ⊥) where
+    is-seq : it_is ≡ sequence_of (cap_of a) n (levels - 1) a.used bs
+    is-seq = value-sequence s i (cap_of a) n levels in_flow role a.used h k e deep fits
+
+    pub sequence_stops : (c : Writer) (z : Refusal) → Refuses (flow_items (cap_of b) n (levels - 1) b.used bs) b c z → Refuses it_is a c z
+    unfolding sequence_of ◌>>=◌
+    sequence_stops c z r = record { is = is-seq ∙ rw (← items-there, r.is); keeps = keeps_more (keeps_begun p) r.keeps }
+
+    pub sequence_wrote : (c d : Writer) (next : ℕ) → Wrote {A = Items} encode (flow_items (cap_of b) n (levels - 1) b.used bs) s b c next
+        → Fills c d header (head 4 (c.used - (header + 6))) → WroteValue role it_is s a d next false
+    unfolding sequence_of ◌>>=◌ encode is_key
+    sequence_wrote c d next w f = record {
+      tree = seq w.got;
+      is = is-seq ∙ rw (← items-there, w.is, f.used);
+      appends = rw (as_seq role w.got) (filled 4 p w.appends f);
+      forward = w.forward;
+      keyed = refl;
+    }
 
 -- ---- an entry
 
@@ -141,22 +220,18 @@ module _ (s : List ℕ) (i cap n levels sum : ℕ) where
   abbrev valued : Answer (Got Yaml)
   valued = entry_value cap n (value cap n levels true) sum (drop i s)
 
-  pub value-last : i ≡ length s → valued ≡ value cap n levels true AsValue sum (drop i s)
+  pub value_last : length s ≤ i → valued ≡ value cap n levels true AsValue sum (drop i s)
   unfolding entry_value
-  value-last e = rw (drop_of_length-le s {i = i} (omega arith))
+  value_last e = rw (drop_of_length-le s {i = i} e)
 
   module _ (h : i < length s) where
-    pub value-comma : get_or s i 0 ≡ ch "," → valued ≡ scalar cap n AsValue sum null (drop i s)
-    unfolding entry_value
-    value-comma e = rw (next s i h, e)
+    pub value_null : leaves_out (get_or s i 0) ≡ true → valued ≡ scalar cap n AsValue sum null (drop i s)
+    unfolding entry_value leaves_out
+    value_null e = rw (next s i h, e)
 
-    pub value-brace : get_or s i 0 ≡ ch "}" → valued ≡ scalar cap n AsValue sum null (drop i s)
-    unfolding entry_value
-    value-brace e = rw (next s i h, e)
-
-    pub value_there : (get_or s i 0 ≡ ch "," → ⊥) → (get_or s i 0 ≡ ch "}" → ⊥) → valued ≡ value cap n levels true AsValue sum (drop i s)
-    unfolding entry_value
-    value_there e f = ap (entry_value cap n (value cap n levels true) sum) (next s i h) ∙ rw (ne_eqb (get_or s i 0) (ch ",") e, ne_eqb (get_or s i 0) (ch "}") f) (ap (value cap n levels true AsValue sum) (sym (next s i h)))
+    pub value_there : leaves_out (get_or s i 0) ≡ false → valued ≡ value cap n levels true AsValue sum (drop i s)
+    unfolding entry_value leaves_out
+    value_there e = ap (entry_value cap n (value cap n levels true) sum) (next s i h) ∙ rw e (ap (value cap n levels true AsValue sum) (sym (next s i h)))
 
 -- a key's text, and the item that is written for it
 pub record Named (y : Yaml) : Type 0 where
@@ -182,80 +257,64 @@ unnamed (str t) e = absurd (false≢true (sym e))
 unnamed (seq ys) e = refl
 unnamed (dict es) e = refl
 
-module _ (s : List ℕ) (i n levels : ℕ) (old : List ℕ) (at : ℕ) where
+module _ (s : List ℕ) (i n levels : ℕ) (old : Writer) where
   abbrev ecap : ℕ
-  ecap = length old
+  ecap = cap_of old
 
   abbrev whole : Answer (Got (List ℕ × Yaml))
-  whole = entry_of ecap n (value ecap n levels true) at (drop i s)
+  whole = entry_of ecap n (value ecap n levels true) old.used (drop i s)
 
-  pub entry-refused : (new : List ℕ) (z : Refusal) → Refuses (value ecap n levels true AsKey at (drop i s)) old new at z → Refuses whole old new at z
+  pub entry_refused : (new : Writer) (z : Refusal) → Refuses (value ecap n levels true AsKey old.used (drop i s)) old new z → Refuses whole old new z
   unfolding entry_of ◌>>=◌
-  entry-refused new z e = record { is = rw e.is; kept = e.kept }
+  entry_refused new z e = record { is = rw e.is; keeps = e.keeps }
 
-  module _ (mid : List ℕ) (j u : ℕ) (key : Bool) (w : WroteValue AsKey (value ecap n levels true AsKey at (drop i s)) s old mid at j u key) where
-    mid-keeps : take at mid ≡ take at old
-    mid-keeps = ap (take at) w.bytes ∙ kept-before at old at (written AsKey w.tree) (omega arith)
-
-    pub entry-unnamed : key ≡ false → Refuses whole old mid at (KeyNotScalar n)
+  module _ (mid : Writer) (j : ℕ) (key : Bool) (w : WroteValue AsKey (value ecap n levels true AsKey old.used (drop i s)) s old mid j key) where
+    pub entry_unnamed : key ≡ false → Refuses whole old mid (KeyNotScalar n)
     unfolding entry_of ◌>>=◌ given
-    entry-unnamed e = record { is = rw (w.is, unnamed w.tree (sym w.keyed ∙ e)); kept = mid-keeps }
+    entry_unnamed e = record { is = rw (w.is, unnamed w.tree (sym w.keyed ∙ e)); keeps = keeps_appended w.appends }
 
     module _ (k : key ≡ true) (c : ℕ) (sk : drop c s ≡ skip_spaces (drop j s)) where
       nm : Named w.tree
       nm = named w.tree (sym w.keyed ∙ k)
 
-      pub entry-ends : length s ≤ c → Refuses whole old mid at (KeyWithoutColon n)
+      pub entry_ends : length s ≤ c → Refuses whole old mid (KeyWithoutColon n)
       unfolding entry_of ◌>>=◌ given behind_colon stop
-      entry-ends h = record { is = rw (w.is, nm.says, ← sk, drop_of_length-le s {i = c} h); kept = mid-keeps }
+      entry_ends h = record { is = rw (w.is, nm.says, ← sk, drop_of_length-le s {i = c} h); keeps = keeps_appended w.appends }
 
       module _ (h : c < length s) where
-        pub entry-colonless : (get_or s c 0 ≡ ch ":" → ⊥) → Refuses whole old mid at (KeyWithoutColon n)
+        pub entry_colonless : (get_or s c 0 ≡ ch ":" → ⊥) → Refuses whole old mid (KeyWithoutColon n)
         unfolding entry_of ◌>>=◌ given behind_colon stop
-        entry-colonless e = record { is = rw (w.is, nm.says, ← sk, next s c h, ne_eqb (get_or s c 0) (ch ":") e); kept = mid-keeps }
+        entry_colonless e = record { is = rw (w.is, nm.says, ← sk, next s c h, ne_eqb (get_or s c 0) (ch ":") e); keeps = keeps_appended w.appends }
 
         module _ (e : get_or s c 0 ≡ ch ":") (d : ℕ) (sd : drop d s ≡ skip_spaces (drop (c + 1) s)) where
-          to-value : whole ≡ (entry_value ecap n (value ecap n levels true) u (drop d s) >>= λ v. good ((nm.name, v.0), v.1, v.2))
+          abbrev Value : Answer (Got Yaml)
+          Value = entry_value (cap_of mid) n (value (cap_of mid) n levels true) mid.used (drop d s)
+
+          to-value : whole ≡ (Value >>= λ v. good ((nm.name, v.0), v.1, v.2))
           unfolding entry_of ◌>>=◌ given behind_colon
-          to-value = rw (w.is, nm.says, ← sk, next s c h, e, sd)
+          to-value = rw (w.is, nm.says, ← sk, next s c h, e, sd, len_appended w.appends)
 
-          entry-stops : (new : List ℕ) (z : Refusal) → Refuses (entry_value ecap n (value ecap n levels true) u (drop d s)) mid new u z → Refuses whole old new at z
+          pub entry_stops : (new : Writer) (z : Refusal) → Refuses Value mid new z → Refuses whole old new z
           unfolding ◌>>=◌
-          entry-stops new z r = record { is = to-value ∙ rw r.is; kept = kept_less at u mid new (omega (arith, w.grows)) r.kept ∙ mid-keeps }
+          entry_stops new z r = record { is = to-value ∙ rw r.is; keeps = keeps_more (keeps_appended w.appends) r.keeps }
 
-          entry_done : i ≤ length s → j ≤ c → c < d → d ≤ length s → (new : List ℕ) (m t : ℕ) (key' : Bool) → WroteValue AsValue (entry_value ecap n (value ecap n levels true) u (drop d s)) s mid new u m t key'
-              → WrotePair whole s old new i at m t
+          pub entry_reads : i ≤ length s → j ≤ c → c < d → d ≤ length s → (new : Writer) (m : ℕ) (key' : Bool) → WroteValue AsValue Value s mid new m key'
+              → Wrote pair_bytes whole s old new m × (i < m)
           unfolding ◌>>=◌ written
-          entry_done wi jc cd dl new m t key' x =
+          entry_reads wi jc cd dl new m key' x =
               let tk : Takes ecap n (value ecap n levels true) = value-takes ecap n levels true in
-              let l₁ : length (drop j s) ≤ length (drop i s) = tk.some_left AsKey at (drop i s) (w.tree, u, drop j s) w.is in
-              let l₂ : length (drop m s) ≤ length (drop d s) = entry_value-le ecap n (value ecap n levels true) tk u (drop d s) (x.tree, t, drop m s) x.is in
-              let same : length mid ≡ length old = ap length w.bytes ∙ length-sets old at (written AsKey w.tree) in
-              record {
-                key = nm.name;
-                tree = x.tree;
-                is = to-value ∙ rw x.is;
-                bytes = x.bytes ∙ ap (λ (l : List ℕ). sets l u (encode x.tree)) (w.bytes ∙ ap (sets old at) nm.put)
-                    ∙ ap (λ (k : ℕ). sets (sets old at (item 3 nm.name)) k (encode x.tree)) (w.grows ∙ ap (λ (l : List ℕ). at + length l) nm.put)
-                    ∙ sets-append (item 3 nm.name) (encode x.tree) old at;
-                grows = rw length-append (omega (arith, w.grows, x.grows, ap length nm.put));
-                fits = omega (arith, x.fits);
-                on = omega (arith, length-drop i s, length-drop j s, length-drop d s, length-drop m s, w.forward, x.forward);
-                forward = x.forward;
-              }
-
-          module _ (new : List ℕ) (r : Parsed) (x : AgreesParsed AsValue (entry_value (length mid) n (value (length mid) n levels true) u (drop d s)) s mid new u r) where
-            mid-long : length mid ≡ length old
-            mid-long = ap length w.bytes ∙ length-sets old at (written AsKey w.tree)
-
-            with-old : AgreesParsed AsValue (entry_value ecap n (value ecap n levels true) u (drop d s)) s mid new u r
-            with-old = subst (λ (k : ℕ). AgreesParsed AsValue (entry_value k n (value k n levels true) u (drop d s)) s mid new u r) mid-long x
-
-            pub entry-halts : (z : Refusal) → r ≡ Refused z → Refuses whole old new at z
-            entry-halts z q = entry-stops new z (refused-is AsValue _ s mid new u r with-old z q)
-
-            pub entry-reads : i ≤ length s → j ≤ c → c < d → d ≤ length s → (m t : ℕ) (key' : Bool) → r ≡ Done m t key' → WrotePair whole s old new i at m t
-            entry-reads wi jc cd dl m t key' q = entry_done wi jc cd dl new m t key' (wrote-is AsValue _ s mid new u r with-old m t key' q)
+              let tm : Takes (cap_of mid) n (value (cap_of mid) n levels true) = value-takes (cap_of mid) n levels true in
+              let l₁ : length (drop j s) ≤ length (drop i s) = tk.some_left AsKey old.used (drop i s) (w.tree, mid.used, drop j s) w.is in
+              let l₂ : length (drop m s) ≤ length (drop d s) = entry_value-le (cap_of mid) n (value (cap_of mid) n levels true) tm mid.used (drop d s) (x.tree, new.used, drop m s) x.is in
+              let a : Appends old mid (item 3 nm.name) = rw (← nm.put) w.appends in (
+                record {
+                  got = (nm.name, x.tree);
+                  is = to-value ∙ rw x.is;
+                  appends = appends_more a x.appends;
+                  forward = x.forward;
+                },
+                omega (arith, length-drop i s, length-drop j s, length-drop d s, length-drop m s, w.forward, x.forward),
+              )
 
 -- ---- what stands between values
 
@@ -284,3 +343,25 @@ module _ (s : List ℕ) (i : ℕ) where
     pub separators-on : (got : Bool) → separates got (get_or s i 0) ≡ true → skip_separators got (drop i s) ≡ skip_separators got (drop (i + 1) s)
     unfolding skip_separators
     separators-on got e = ap (skip_separators got) (next s i h) ∙ rw e
+
+-- ---- a part of a line that is one value
+
+module _ (s : List ℕ) (n levels : ℕ) (role : Role) (old new : Writer) where
+  abbrev part : Answer (Got Yaml)
+  part = value (cap_of old) n levels false role old.used (skip_spaces s)
+
+  abbrev all : Answer (Yaml × ℕ)
+  all = flow (cap_of old) n levels role old.used s
+
+  pub part_refused : (z : Refusal) → Refuses part old new z → Refuses all old new z
+  unfolding flow ◌>>=◌
+  part_refused z r = record { is = rw r.is; keeps = r.keeps }
+
+  module _ (j : ℕ) (key : Bool) (w : WroteValue role part s old new j key) (c : ℕ) (sc : drop c s ≡ skip_spaces (drop j s)) where
+    pub part_whole : length s ≤ c → WroteWhole role all old new key
+    unfolding flow ◌>>=◌ ◌>>◌ ensure empty
+    part_whole h = record { tree = w.tree; is = rw (w.is, ← sc, drop_of_length-le s {i = c} h); appends = w.appends; keyed = w.keyed }
+
+    pub part_more : c < length s → Refuses all old new (TextAfterValue n)
+    unfolding flow ◌>>=◌ ◌>>◌ ensure empty
+    part_more h = record { is = rw (w.is, ← sc, next s c h); keeps = keeps_appended w.appends }

@@ -14,8 +14,10 @@ use Rattle.item.specs.Encode.{number, head, item}
 use Rattle.item.specs.Decode.{header}
 use Rattle.item.proofs.Size.{head-length}
 use Rattle.item.proofs.RoundTrip.{head-size, head-kind}
-use Rattle.item.specs.declared.Header.{Header}
-use Rattle.item.specs.declared.Header.TheVariants.{Item, Cut, PastEnd}
+use Rattle.std.specs.Prelude.{Result, Ok, Err}
+use Rattle.item.specs.declared.Item.{Item}
+use Rattle.item.specs.declared.Broken.{Broken}
+use Rattle.item.specs.declared.Broken.TheVariants.{Cut, PastEnd}
 use Rattle.item.specs.Places.{header_at}
 
 -- ---- numbers at places
@@ -38,22 +40,22 @@ module _ (s : List ℕ) (i : ℕ) where
 -- ---- the three cases
 
 module _ (s : List ℕ) (at : ℕ) where
-  pub at_cut : length s < at + 6 → header_at s at ≡ Cut
+  pub at_cut : length s < at + 6 → header_at s at ≡ Err Cut
   unfolding header_at
   at_cut h = rw (lt-ltb (length s) (at + 6) h)
 
   module _ (n : ℕ) (h : at + 6 ≤ length s) (e : number (take 4 (drop at s)) ≡ n) where
-    pub at-past : length s < at + 6 + n → header_at s at ≡ PastEnd
+    pub at-past : length s < at + 6 + n → header_at s at ≡ Err PastEnd
     unfolding header_at
     at-past m = rw (le-ltb (length s) (at + 6) h, e, lt-ltb (length s) (at + 6 + n) m)
 
-    pub at_item : (k : ℕ) → number (take 2 (drop (at + 4) s)) ≡ k → at + 6 + n ≤ length s → header_at s at ≡ Item k (at + 6) (at + 6 + n)
+    pub at_item : (k : ℕ) → number (take 2 (drop (at + 4) s)) ≡ k → at + 6 + n ≤ length s → header_at s at ≡ Ok (record { kind = k; from = at + 6; to = at + 6 + n })
     unfolding header_at
     at_item k f m = rw (le-ltb (length s) (at + 6) h, e, f, le-ltb (length s) (at + 6 + n) m)
 
 -- what a written item looks like from its place
 pub item-at : (s : List ℕ) (at k : ℕ) (c r : List ℕ) → k < 256 ^ 2 → length c < 256 ^ 4 → at ≤ length s → drop at s ≡ item k c ++ r
-    → header_at s at ≡ Item k (at + 6) (at + 6 + length c)
+    → header_at s at ≡ Ok (record { kind = k; from = at + 6; to = at + 6 + length c })
 unfolding item
 item-at s at k c r hk hc ha e =
     let w : drop at s ≡ head k (length c) ++ (c ++ r) = e ∙ append_assoc (head k (length c)) c r in
@@ -62,10 +64,9 @@ item-at s at k c r hk hc ha e =
     k (ap (λ (l : List ℕ). number (take 2 l)) (sym (drop-drop 4 at s) ∙ ap (drop 4) w) ∙ head-kind k (length c) (c ++ r) hk hc) (omega arith)
 
 -- what the decoder's header finds, by places
-unfoldable pub found : List ℕ → Header → Option (ℕ × List ℕ × List ℕ)
-found s (Item kind from to) = some (kind, take (to - from) (drop from s), drop to s)
-found s Cut = none
-found s PastEnd = none
+unfoldable pub found : List ℕ → Result Item Broken → Option (ℕ × List ℕ × List ℕ)
+found s (Ok item) = some (item.kind, take (item.to - item.from) (drop item.from s), drop item.to s)
+found s (Err broken) = none
 
 pub header-places : (s : List ℕ) (at : ℕ) → header (drop at s) ≡ found s (header_at s at)
 unfolding header found

@@ -1,104 +1,145 @@
 // Items, the bytes that trees and records are made of: content length (4 bytes), kind (2 bytes), both little-endian, then the content.
 #![tactic(auto)]
 
-ghost use Rattle.std.specs.Prelude.{◌≡◌, ◌+◌, ◌≤◌, ◌<◌, ◌^◌, length, take, drop, replicate};
+ghost use Rattle.std.specs.Prelude.{◌≡◌, ◌+◌, ◌≤◌, ◌<◌, ◌^◌, IfOk, length, take, drop};
 ghost use Rattle.std.proofs.lemmas.List.Edits.{sets};
 ghost use Rattle.refusal.specs.Base.{same};
 ghost use Rattle.item.specs.Tree.{null, bool, int, str};
 ghost use Rattle.item.specs.Encode.{le, number, head, twos, signed, encode};
 ghost use Rattle.item.specs.Places.{header_at};
 
+mod walk;
+
+pub use walk::Items;
+
 // Of a lent output at most so many bytes count, and a record has at most so many.
 pub const LIMIT: usize = 1048576;
 
-// What stands at a place of some bytes.
-#[derive(Clone, Copy)]
-pub enum Header {
-    // An item, whose content is the part from `from` to `to`.
-    Item { kind: usize, from: usize, to: usize },
+// The kinds of items: of trees, and those that only a record has.
+#[derive(Clone, Copy, Debug, PartialEq, Eq)]
+pub enum Kind {
+    Null = 0,
+    Bool = 1,
+    Int = 2,
+    Str = 3,
+    Seq = 4,
+    Map = 5,
+    Scenario = 16,
+    Defaults = 17,
+    Steps = 18,
+    Step = 19,
+}
+
+// A number that no kind has.
+#[derive(Clone, Copy, Debug, PartialEq, Eq)]
+pub struct UnknownKind;
+
+impl TryFrom<usize> for Kind {
+    ghost use Rattle.item.specs.Kinds.{NamesKind};
+
+    type Error = UnknownKind;
+
+    ghost try_from_gives = { NamesKind };
+
+    #[inline]
+    fn try_from(number: usize) -> Result<Kind, UnknownKind> {
+        match number {
+            0 => Ok(Kind::Null),
+            1 => Ok(Kind::Bool),
+            2 => Ok(Kind::Int),
+            3 => Ok(Kind::Str),
+            4 => Ok(Kind::Seq),
+            5 => Ok(Kind::Map),
+            16 => Ok(Kind::Scenario),
+            17 => Ok(Kind::Defaults),
+            18 => Ok(Kind::Steps),
+            19 => Ok(Kind::Step),
+            _ => Err(UnknownKind),
+        }
+    }
+}
+
+// An item, by its places: its content is the part from `from` to `to`. Bytes from outside may have any kind.
+#[derive(Clone, Copy, Debug, PartialEq, Eq)]
+pub struct Item {
+    pub kind: usize,
+    pub from: usize,
+    pub to: usize,
+}
+
+// Why no item stands at a place.
+#[derive(Clone, Copy, Debug, PartialEq, Eq)]
+pub enum Broken {
     // Fewer bytes than a header has.
     Cut,
     // A content length that runs past the end.
     PastEnd,
 }
 
-// A place that was looked for.
-#[derive(Clone, Copy)]
+// An integer, by its sign and its magnitude.
+#[derive(Clone, Copy, Debug, PartialEq, Eq)]
+pub struct Integer {
+    pub negative: bool,
+    pub magnitude: u64,
+}
+
+// A place that was looked for: an enum of its own, so that a search says `Found::At(place)` where it is taken apart.
+#[derive(Clone, Copy, Debug, PartialEq, Eq)]
 pub enum Found {
     At(usize),
     Nothing,
 }
 
+// `kind` is a number, as a header can have any of 16 bits.
 pub fn put_header(out: &mut [u8], at: usize, kind: usize, size: usize)
     requires { (at + 6 ≤ length out.old) × (kind < 2 ^ 16) × (size < 2 ^ 32) }
     ensures { out.new ≡ sets out.old at (head kind size) }
 {
-    out[at] = (size % 256) as u8;
-    out[at + 1] = (size / 256 % 256) as u8;
-    out[at + 2] = (size / 65536 % 256) as u8;
-    out[at + 3] = (size / 16777216 % 256) as u8;
-    out[at + 4] = (kind % 256) as u8;
-    out[at + 5] = (kind / 256 % 256) as u8;
+    out[at..at + 4].copy_from_slice(&(size as u32).to_le_bytes());
+    out[at + 4..at + 6].copy_from_slice(&(kind as u16).to_le_bytes());
 }
 
 pub fn put_null(out: &mut [u8], at: usize)
     requires { at + 6 ≤ length out.old }
     ensures { out.new ≡ sets out.old at (encode null) }
 {
-    put_header(out, at, 0, 0);
+    put_header(out, at, Kind::Null as usize, 0);
 }
 
 pub fn put_bool(out: &mut [u8], at: usize, value: bool)
     requires { at + 7 ≤ length out.old }
     ensures { out.new ≡ sets out.old at (encode (bool value)) }
 {
-    put_header(out, at, 1, 1);
+    put_header(out, at, Kind::Bool as usize, 1);
     out[at + 6] = value as u8;
 }
 
-fn put_u64(out: &mut [u8], at: usize, n: u64)
-    requires { at + 8 ≤ length out.old }
-    ensures { out.new ≡ sets out.old at (le 8 n) }
+// The bits of an integer of 64 bits.
+fn twos_complement(n: Integer) -> u64
+    ensures { result ≡ twos (signed n.negative n.magnitude) }
 {
-    out[at] = (n % 256) as u8;
-    out[at + 1] = (n / 256 % 256) as u8;
-    out[at + 2] = (n / 65536 % 256) as u8;
-    out[at + 3] = (n / 16777216 % 256) as u8;
-    out[at + 4] = (n / 4294967296 % 256) as u8;
-    out[at + 5] = (n / 1099511627776 % 256) as u8;
-    out[at + 6] = (n / 281474976710656 % 256) as u8;
-    out[at + 7] = (n / 72057594037927936 % 256) as u8;
-}
-
-fn twos_complement(negative: bool, magnitude: u64) -> u64
-    ensures { result ≡ twos (signed negative magnitude) }
-{
-    if negative {
-        if magnitude == 0 {
-            return 0;
-        }
-        return 18446744073709551615 - (magnitude - 1);
+    if n.negative {
+        n.magnitude.wrapping_neg()
+    } else {
+        n.magnitude
     }
-    magnitude
 }
 
-// An integer, by its sign and its magnitude.
-pub fn put_int(out: &mut [u8], at: usize, negative: bool, magnitude: u64)
+pub fn put_int(out: &mut [u8], at: usize, n: Integer)
     requires { at + 14 ≤ length out.old }
-    ensures { out.new ≡ sets out.old at (encode (int (signed negative magnitude))) }
+    ensures { out.new ≡ sets out.old at (encode (int (signed n.negative n.magnitude))) }
 {
-    put_header(out, at, 2, 8);
-    put_u64(out, at + 6, twos_complement(negative, magnitude));
+    put_header(out, at, Kind::Int as usize, 8);
+    out[at + 6..at + 14].copy_from_slice(&twos_complement(n).to_le_bytes());
 }
 
+// A loop, since libraries call no `memcpy`.
 pub fn copy(out: &mut [u8], at: usize, s: &[u8])
     requires { at + length s.now ≤ length out.old }
     ensures { out.new ≡ sets out.old at s.now }
 {
-    let mut i = 0;
-    while i < s.len() {
-        out[at + i] = s[i];
-        i += 1;
+    for (i, &b) in s.iter().enumerate() {
+        out[at + i] = b;
     }
 }
 
@@ -106,67 +147,50 @@ pub fn put_string(out: &mut [u8], at: usize, s: &[u8])
     requires { (at + 6 + length s.now ≤ length out.old) × (length s.now < 2 ^ 32) }
     ensures { out.new ≡ sets out.old at (encode (str s.now)) }
 {
-    put_header(out, at, 3, s.len());
+    put_header(out, at, Kind::Str as usize, s.len());
     copy(out, at + 6, s);
-}
-
-// A byte as a wider number; the caller owes nothing for the cast.
-fn wide(b: u8) -> usize
-    ensures { (result ≡ b) × (result < 256) }
-{
-    b as usize
 }
 
 fn size_at(s: &[u8], at: usize) -> usize
     requires { at + 4 ≤ length s.now }
     ensures { (result ≡ number (take 4 (drop at s.now))) × (result < 2 ^ 32) }
 {
-    let a = wide(s[at]);
-    let b = wide(s[at + 1]);
-    let c = wide(s[at + 2]);
-    let d = wide(s[at + 3]);
-    a + 256 * b + 65536 * c + 16777216 * d
+    u32::from_le_bytes([s[at], s[at + 1], s[at + 2], s[at + 3]]) as usize
 }
 
 fn kind_at(s: &[u8], at: usize) -> usize
     requires { at + 2 ≤ length s.now }
     ensures { result ≡ number (take 2 (drop at s.now)) }
 {
-    let a = wide(s[at]);
-    let b = wide(s[at + 1]);
-    a + 256 * b
+    u16::from_le_bytes([s[at], s[at + 1]]) as usize
 }
 
 // Any place of any bytes.
-pub fn header_at(s: &[u8], at: usize) -> Header
-    ensures { result ≡ header_at s.now at }
+pub fn header_at(s: &[u8], at: usize) -> Result<Item, Broken>
+    ensures value { result ≡ header_at s.now at }
+    ensures inside { IfOk result (λ item. (item.from ≡ at + 6) × (item.from ≤ item.to) × (item.to ≤ length s.now)) }
 {
-    if s.len() < 6 {
-        return Header::Cut;
-    }
-    if s.len() - 6 < at {
-        return Header::Cut;
+    if s.len() < 6 || s.len() - 6 < at {
+        return Err(Broken::Cut);
     }
     let from = at + 6;
     let size = size_at(s, at);
     if s.len() - from < size {
-        return Header::PastEnd;
+        return Err(Broken::PastEnd);
     }
-    Header::Item {
+    Ok(Item {
         kind: kind_at(s, at + 4),
         from,
         to: from + size,
-    }
+    })
 }
 
-// From the end, since long keys are mostly alike at their beginnings.
+// From the end, since long keys are mostly alike at their beginnings; a loop, since libraries call no `memcmp`.
 pub fn equal_bytes(a: &[u8], b: &[u8]) -> bool
     requires { length a.now ≡ length b.now }
     ensures { result ≡ same a.now b.now }
 {
-    let mut i = a.len();
-    while i > 0 {
-        i -= 1;
+    for i in (0..a.len()).rev() {
         if a[i] != b[i] {
             return false;
         }
@@ -177,28 +201,5 @@ pub fn equal_bytes(a: &[u8], b: &[u8]) -> bool
 pub fn same_bytes(a: &[u8], b: &[u8]) -> bool
     ensures { result ≡ same a.now b.now }
 {
-    if a.len() != b.len() {
-        return false;
-    }
-    equal_bytes(a, b)
-}
-
-pub fn zero_bytes(out: &mut [u8])
-    ensures { out.new ≡ replicate (length out.old) 0 }
-{
-    let mut left = out.len();
-    while left > 0 {
-        left -= 1;
-        out[left] = 0;
-    }
-}
-
-pub fn zero_numbers(out: &mut [u32])
-    ensures { out.new ≡ replicate (length out.old) 0 }
-{
-    let mut places = out.len();
-    while places > 0 {
-        places -= 1;
-        out[places] = 0;
-    }
+    a.len() == b.len() && equal_bytes(a, b)
 }

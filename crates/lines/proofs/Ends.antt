@@ -6,7 +6,10 @@ use Prim.Native.Nat.{ℕ, zero, suc, ◌-◌, ◌≤◌}
 use mathlib.Core.List.{List, [], ◌∷◌, ◌++◌, append_assoc}
 use mathlib.Core.Bool.{Bool, true, false, false≢true}
 use lib.Dec.{ltb}
-use lib.ListN.{length, drop}
+use lib.ListN.{length, take, drop}
+use native.Mathlib.Omega.{arith}
+use lib.Seq.{length-take-le}
+use Rattle.std.proofs.lemmas.List.{length-map}
 use Rattle.refusal.specs.Base.{good, maybe, empty, ch}
 use Rattle.refusal.proofs.Tools.{good-inj, refused≢good, bound}
 use Rattle.utf8.specs.Utf8.{within}
@@ -15,8 +18,9 @@ use Rattle.utf8.proofs.Laws.{end_empty, end-all}
 use Rattle.lines.specs.declared.Literal.{Literal}
 use Rattle.lines.specs.declared.Literal.TheVariants.{Closed as Shut, Under}
 use Rattle.lines.specs.Lines.{Line, line, Event, entry, bad, split_lines, indent_of, strip_comment, tabbed, significant, is_marker, literal_after, events_of, blanks_before, body_of, scan, collect, significant_lines}
-use Rattle.lines.specs.Table.{table_lines, Filled}
-use Rattle.lines.specs.Ready.{Closed, Ended, none, blank, full, Ready}
+use Rattle.lines.specs.declared.Row.{Row}
+use Rattle.lines.specs.Table.{line_of, table_lines, AllLieIn}
+use Rattle.lines.specs.Ready.{Closed, Ended, none, blank, full, Filled}
 use Rattle.lines.proofs.Laws.{indent-white}
 
 -- ---- texts
@@ -152,5 +156,16 @@ ended-drop (suc i) (blank l m ls t j e) = ended-drop i e
 ended-drop (suc i) (full l ls c e) = ended-drop i e
 
 -- a table that was filled from its text
-pub ready : (text table : List ℕ) (count : ℕ) → length text ≤ 65535 → length table ≡ 8192 → Filled text table count → Ready text table count
-ready text table count h k f = record { short = h; whole = k; few = f.few; placed = f.placed; ended = lines_end text (table_lines text table count) f.lines }
+pub filled : (text : List ℕ) (rows : List Row) (count : ℕ) → length text ≤ 65535 → length rows ≡ 2048 → count ≤ 2048
+    → significant_lines text ≡ good (table_lines text (take count rows)) → AllLieIn text (take count rows) → Filled text rows count
+filled text rows count h k f e p =
+    let n : length (take count rows) ≡ count = length-take-le count rows (omega arith) in
+    record {
+      room = omega arith;
+      lines = e;
+      ready = record {
+        short = h;
+        placed = p;
+        lines = record { few = omega (arith, length-map (take count rows) (line_of text)); ended = lines_end text (table_lines text (take count rows)) e };
+      };
+    }

@@ -11,17 +11,17 @@ use lib.Dec.{eqb, leb, ltb}
 use lib.ListN.{length, take, drop, get_or, drop_of_length-le}
 use lib.Seq.{drop-cons, take-add}
 use borrow.Author.Tests.{eq-eqb, ne_eqb, eqb-true, eqb-false, leb-true, leb-false, ltb-true, ltb-false}
+use Rattle.std.specs.Cmp.Lexicographic.{pointwise}
 use Rattle.refusal.specs.Base.{maybe, ch, bytes, same, ends_with}
 use Rattle.item.proofs.Same.{same_length}
 use Rattle.utf8.specs.Utf8.{within}
 use Rattle.utf8.specs.Part.{part}
 use Rattle.utf8.specs.White.{white1, white2, in2000, white3, white_at, white_len, leading, leading_from, trim_start, all_white}
-use Rattle.utf8.proofs.Ranges.{neither}
 use Rattle.utf8.proofs.Laws.{part-cons, part-empty, leading-none, leading-on}
 use Rattle.lines.specs.declared.Place.{Place}
 use Rattle.lines.specs.declared.Place.TheVariants.{Fresh, Plain, Single, Double, Hidden}
-use Rattle.lines.specs.Lines.{Line, indent_of, has_tab, tabbed, starts_comment, place_after, uncommented, strip_comment}
-use Rattle.lines.specs.Dash.{dashed, is_dash}
+use Rattle.lines.specs.Lines.{indent_of, has_tab, tabbed, starts_comment, place_after, uncommented, strip_comment, is_marker}
+use Rattle.lines.specs.Dash.{dashed}
 use Rattle.lines.specs.Places.{Lacks, until_newline}
 
 -- ---- parts without a byte
@@ -33,33 +33,6 @@ module _ (s : List ℕ) (i b : ℕ) where
       go : (x : Bool) → eqb k j ≡ x → ⊥
       go true p = n (ap (λ (a : ℕ). get_or s a 0) (sym (eqb-true k j p)) ∙ q)
       go false p = f k l (omega (arith, eqb-false k j p)) q
-
-  pub lacks_both : (j m : ℕ) → Lacks s i j b → Lacks s j m b → Lacks s i m b
-  lacks_both j m f g k l h q = go (ltb k j) refl
-    where
-      go : (x : Bool) → ltb k j ≡ x → ⊥
-      go true p = f k l (ltb-true k j p) q
-      go false p = g k (ltb-false k j p) h q
-
-  abbrev is : ℕ → Bool
-  is k = eqb (get_or s k 0) b
-
-  pub lacks-eight : is i || is (i + 1) || is (i + 2) || is (i + 3) || is (i + 4) || is (i + 5) || is (i + 6) || is (i + 7) ≡ false → Lacks s i (i + 8) b
-  lacks-eight z =
-      let z7 = neither (is i || is (i + 1) || is (i + 2) || is (i + 3) || is (i + 4) || is (i + 5) || is (i + 6)) (is (i + 7)) z in
-      let z6 = neither (is i || is (i + 1) || is (i + 2) || is (i + 3) || is (i + 4) || is (i + 5)) (is (i + 6)) z7.0 in
-      let z5 = neither (is i || is (i + 1) || is (i + 2) || is (i + 3) || is (i + 4)) (is (i + 5)) z6.0 in
-      let z4 = neither (is i || is (i + 1) || is (i + 2) || is (i + 3)) (is (i + 4)) z5.0 in
-      let z3 = neither (is i || is (i + 1) || is (i + 2)) (is (i + 3)) z4.0 in
-      let z2 = neither (is i || is (i + 1)) (is (i + 2)) z3.0 in
-      let z1 = neither (is i) (is (i + 1)) z2.0 in
-      more 7 (more 6 (more 5 (more 4 (more 3 (more 2 (more 1 (more 0 (λ k l h. absurd (omega arith)) (at0 z1.0)) z1.1) z2.1) z3.1) z4.1) z5.1) z6.1) z7.1
-    where
-      at0 : is i ≡ false → is (i + 0) ≡ false
-      at0 e = let z : i + 0 ≡ i = omega arith in rw z e
-
-      more : (n : ℕ) → Lacks s i (i + n) b → is (i + n) ≡ false → Lacks s i (i + suc n) b
-      more n f e = lacks-more (i + n) (i + suc n) (omega arith) f (eqb-false (get_or s (i + n) 0) b e)
 
 -- ---- newlines
 
@@ -290,42 +263,32 @@ ends_at p (b ∷ t) h = go (leb (length p) (length t)) refl (ends_at p t)
         let d : suc (length t) - length p ≡ 0 = omega arith in
         rw (d, ends-short p t m) (or-false (same p (b ∷ t)))
 
--- ---- dashes
+-- a marker has three bytes
+pub marker_length : (t : List ℕ) → (length t ≡ 3 → ⊥) → false ≡ is_marker t
+unfolding is_marker bytes
+marker_length t n = rw (same_length t (bytes "---") n, same_length t (bytes "...") n)
 
-pub dashed-empty : (t : List ℕ) → length t ≡ 0 → false ≡ dashed t
-unfolding dashed same bytes
-dashed-empty [] e = refl
-dashed-empty (b ∷ t) e = absurd (omega arith)
+-- std's test of two slices, and its test of an end
+pointwise_same : (p t : List ℕ) → pointwise eqb p t ≡ same p t
+unfolding same
+pointwise_same [] [] = refl
+pointwise_same [] (b ∷ t) = refl
+pointwise_same (a ∷ p) [] = refl
+pointwise_same (a ∷ p) (b ∷ t) = ap (λ (x : Bool). eqb a b && x) (pointwise_same p t)
 
-pub dashed-other : (t : List ℕ) → 0 < length t → (get_or t 0 0 ≡ ch "-" → ⊥) → false ≡ dashed t
-unfolding dashed same bytes
-dashed-other [] h n = absurd (omega arith)
-dashed-other (b ∷ t) h n = rw (ne_eqb b (ch "-") n)
-
-pub dashed-alone : (t : List ℕ) → length t ≡ 1 → get_or t 0 0 ≡ ch "-" → true ≡ dashed t
-unfolding dashed same bytes
-dashed-alone [] h e = absurd (omega arith)
-dashed-alone (b ∷ []) h e = rw (eq-eqb b (ch "-") e)
-dashed-alone (b ∷ c ∷ t) h e = absurd (omega arith)
-
-pub dashed-more : (t : List ℕ) → 1 < length t → get_or t 0 0 ≡ ch "-" → eqb (get_or t 1 0) (ch " ") ≡ dashed t
-unfolding dashed same bytes
-dashed-more [] h e = absurd (omega arith)
-dashed-more (b ∷ []) h e = absurd (omega arith)
-dashed-more (b ∷ c ∷ t) h e = rw (eq-eqb b (ch "-") e) (go (eqb c (ch " ")))
+pub ends_text : (p t : List ℕ) → pointwise eqb p (drop (length t - length p) t) ≡ ends_with p t
+ends_text p t = pointwise_same p (drop (length t - length p) t) ∙ go (leb (length p) (length t)) refl
   where
-    go : (x : Bool) → x ≡ (x && true)
-    go true = refl
-    go false = refl
+    go : (x : Bool) → leb (length p) (length t) ≡ x → same p (drop (length t - length p) t) ≡ ends_with p t
+    go true e = sym (ends_at p t (leb-true (length p) (length t) e))
+    go false e =
+        let m : length t < length p = leb-false (length p) (length t) e in
+        let d : length t - length p ≡ 0 = omega arith in
+        rw (d, ends-short p t m) (same_length p t (λ q. omega arith))
+
+-- ---- dashes
 
 pub dashed-filled : (t : List ℕ) → dashed t ≡ true → 0 < length t
 unfolding dashed same bytes
 dashed-filled [] e = absurd (false≢true e)
 dashed-filled (b ∷ t) e = omega arith
-
-module _ (indent : ℕ) (l : Line) where
-  pub dash-elsewhere : (l.indent ≡ indent → ⊥) → false ≡ is_dash indent l
-  dash-elsewhere n = rw (ne_eqb l.indent indent n)
-
-  pub dash-here : l.indent ≡ indent → dashed l.text ≡ is_dash indent l
-  dash-here e = rw (eq-eqb l.indent indent e)

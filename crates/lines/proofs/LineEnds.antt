@@ -180,8 +180,8 @@ module _ (text : List ℕ) (at newline : ℕ) (h : at < length text) (n : newlin
   pub ends_last : newline ≡ length text → LineEnds text at newline newline
   ends_last e = whole (returned-none (drop at text) (omega (arith, long)))
 
-  pub ends-empty : newline ≡ at → LineEnds text at newline newline
-  ends-empty e = whole (returned-start (drop at text) (omega arith))
+  pub ends_empty : newline ≡ at → LineEnds text at newline newline
+  ends_empty e = whole (returned-start (drop at text) (omega arith))
 
   module _ (k : newline < length text) (m : at < newline) where
     byte : returned (drop at text) ≡ eqb (get_or text (newline - 1) 0) (ch "\r")
@@ -193,5 +193,5 @@ module _ (text : List ℕ) (at newline : ℕ) (h : at < length text) (n : newlin
     unfolding flag
     ends_return e = ends true (newline - 1) (byte ∙ eq-eqb (get_or text (newline - 1) 0) (ch "\r") e) (omega arith) (omega arith)
 
-    pub ends-other : (get_or text (newline - 1) 0 ≡ ch "\r" → ⊥) → LineEnds text at newline newline
-    ends-other e = whole (byte ∙ ne_eqb (get_or text (newline - 1) 0) (ch "\r") e)
+    pub ends_other : (get_or text (newline - 1) 0 ≡ ch "\r" → ⊥) → LineEnds text at newline newline
+    ends_other e = whole (byte ∙ ne_eqb (get_or text (newline - 1) 0) (ch "\r") e)

@@ -1,71 +1,22 @@
--- The lines of a table, one by one, and the entries that stand for them. Assumes nothing.
-use mathlib.Core.Path.{◌≡◌, refl, sym, ap, ◌∙◌}
-use Prim.Native.Nat.{ℕ, zero, suc, ◌+◌, ◌≤◌, ◌<◌}
+-- The lines of a table, one by one. Assumes nothing.
+use mathlib.Core.Path.{◌≡◌}
+use Prim.Native.Nat.{ℕ, ◌+◌, ◌<◌}
 use native.Mathlib.Numerals.{add-one}
 use native.Mathlib.Omega.{arith}
-use mathlib.Core.List.{List, [], ◌∷◌, ◌++◌}
-use mathlib.Core.Bool.{Bool, true, false}
-use lib.Dec.{ltb}
-use lib.ListN.{length, drop, length-append, drop_of_length-le}
-use lib.Seq.{drop-append-le, drop_at}
-use borrow.Author.Tests.{ltb-true, ltb-false}
-use Rattle.utf8.specs.Part.{part}
-use Rattle.lines.specs.declared.Entry.{Entry}
-use Rattle.lines.specs.Lines.{Line}
-use Rattle.lines.specs.Table.{line_at, table_lines, IsEntry}
-use Rattle.lines.specs.Ready.{Ready}
+use mathlib.Core.List.{List, [], ◌∷◌}
+use lib.ListN.{length, drop, get_or, drop_of_length-le}
+use lib.Seq.{drop-cons}
+use Rattle.std.proofs.lemmas.List.{length-map, get_or-map}
+use Rattle.lines.specs.declared.Row.{Row}
+use Rattle.lines.specs.Lines.{Line, line}
+use Rattle.lines.specs.Table.{line_of, table_lines, line_at}
 
--- a line that is added at the end
-module _ (front : List Line) (last : Line) (i : ℕ) where
-  next-before : (x : Line) → i < length front → drop i front ≡ x ∷ drop (i + 1) front → drop i (front ++ last ∷ []) ≡ x ∷ drop (i + 1) (front ++ last ∷ [])
-  next-before x h e =
-      drop-append-le i front (last ∷ []) (omega arith)
-      ∙ ap (λ (l : List Line). l ++ last ∷ []) e
-      ∙ ap (λ (l : List Line). x ∷ l) (sym (drop-append-le (i + 1) front (last ∷ []) (omega arith)))
+pub lines_end : (ls : List Line) (i : ℕ) → i ≡ length ls → drop i ls ≡ []
+lines_end ls i e = drop_of_length-le ls {i = i} (omega arith)
 
-  next_last : length front ≡ i → drop i (front ++ last ∷ []) ≡ last ∷ drop (i + 1) (front ++ last ∷ [])
-  next_last e =
-      drop_at front (last ∷ []) i e
-      ∙ ap (λ (l : List Line). last ∷ l) (sym (drop_of_length-le (front ++ last ∷ []) {i = i + 1} (omega (arith, length-append front (last ∷ [])))))
+pub lines_next : (ls : List Line) (i : ℕ) → i < length ls → drop i ls ≡ line_at ls i ∷ drop (i + 1) ls
+lines_next ls i h = rw add-one (drop-cons ls i (line 0 [] 0) h)
 
-module _ (text table : List ℕ) where
-  pub rows-length : (count : ℕ) → length (table_lines text table count) ≡ count
-  unfolding table_lines
-  rows-length zero = refl
-  rows-length (suc n) = length-append (table_lines text table n) (line_at text table n ∷ []) ∙ ap (λ (k : ℕ). k + 1) (rows-length n) ∙ add-one n
-
-  pub rows_end : (count i : ℕ) → i ≡ count → drop i (table_lines text table count) ≡ []
-  rows_end count i e = drop_of_length-le (table_lines text table count) {i = i} (omega (arith, rows-length count))
-
-  pub in_lines : (count i : ℕ) → i ≤ count → i ≤ length (table_lines text table count)
-  in_lines count i h = omega (arith, rows-length count)
-
-  pub in_table : (count i : ℕ) → i ≤ length (table_lines text table count) → i ≤ count
-  in_table count i h = omega (arith, rows-length count)
-
-  pub rows_next : (count i : ℕ) → i < count → drop i (table_lines text table count) ≡ line_at text table i ∷ drop (i + 1) (table_lines text table count)
-  unfolding table_lines
-  rows_next zero i h = absurd (omega arith)
-  rows_next (suc n) i h = go (ltb i n) refl (rows_next n i)
-    where
-      go : (t : Bool) → ltb i n ≡ t → (i < n → drop i (table_lines text table n) ≡ line_at text table i ∷ drop (i + 1) (table_lines text table n))
-          → drop i (table_lines text table (suc n)) ≡ line_at text table i ∷ drop (i + 1) (table_lines text table (suc n))
-      go true q r =
-          let m : i < n = ltb-true i n q in
-          next-before (table_lines text table n) (line_at text table n) i (line_at text table i) (omega (arith, rows-length n)) (r m)
-      go false q r =
-          let m : n ≡ i = omega (arith, ltb-false i n q) in
-          ap (λ (k : ℕ). drop k (table_lines text table (suc n))) (sym m)
-          ∙ next_last (table_lines text table n) (line_at text table n) n (rows-length n)
-          ∙ ap (λ (k : ℕ). line_at text table k ∷ drop (k + 1) (table_lines text table (suc n))) m
-
--- an entry, as the code has it
-module _ (text table : List ℕ) (count i : ℕ) (h : i < count) (x : Entry) (is : IsEntry table i x) where
-  pub entry-ordered : Ready text table count → x.start ≤ x.end
-  entry-ordered r = omega (arith, (r.placed i h).ordered, is.start', is.end')
-
-  pub entry-inside : Ready text table count → x.end ≤ length text
-  entry-inside r = omega (arith, (r.placed i h).inside, is.end')
-
-  pub entry-text : part text x.start x.end ≡ (line_at text table i).text
-  entry-text = rw (is.start', is.end')
+-- a row and its line
+pub row_line : (text : List ℕ) (rows : List Row) (i : ℕ) (d : Row) → i < length (table_lines text rows) → line_at (table_lines text rows) i ≡ line_of text (get_or rows i d)
+row_line text rows i d h = get_or-map (line_of text) rows i d (line 0 [] 0) (omega (arith, length-map rows (line_of text)))

@@ -1,16 +1,18 @@
 -- What a line of the text gives, by its places. Assumes nothing.
-use Rattle.std.specs.Prelude.{if◌then◌else◌}
+use Rattle.std.specs.Prelude.{Result, Ok, Err, if◌then◌else◌}
+use Rattle.refusal.specs.declared.Refusal.{Refusal}
 use mathlib.Core.Path.{◌≡◌, refl, sym, ap, ◌∙◌}
-use Prim.Native.Nat.{ℕ, suc, ◌+◌, ◌*◌, ◌-◌, ◌≤◌, ◌<◌}
+use Prim.Native.Nat.{ℕ, suc, ◌+◌, ◌-◌, ◌≤◌, ◌<◌}
 use native.Mathlib.Numerals.{add-one}
 use native.Mathlib.Omega.{arith}
 use mathlib.Core.List.{List, [], ◌∷◌, ◌++◌, append_assoc, append-nil}
 use mathlib.Core.Bool.{Bool, true, false}
 use lib.Dec.{ltb}
-use lib.ListN.{length, drop, drop_of_length-le}
-use lib.Seq.{sets}
+use lib.ListN.{length, take, drop, set, drop_of_length-le}
+use Rattle.lines.specs.declared.Row.{Row}
 use borrow.Author.Tests.{lt-ltb, le-ltb}
 use Rattle.refusal.specs.Base.{Answer, good, refused, ◌>>=◌, bytes, same, ends_with, empty}
+use Rattle.refusal.specs.Told.{told_of, refusal}
 use Rattle.utf8.specs.Part.{part}
 use Rattle.utf8.specs.White.{all_white, trim_end}
 use Rattle.utf8.proofs.Laws.{part-empty, part-cons, part-drop, part-take, end-part}
@@ -22,8 +24,7 @@ use Rattle.lines.specs.declared.Way.{Way}
 use Rattle.lines.specs.declared.Way.TheVariants.{Normal, Blank, Body}
 use Rattle.lines.specs.Places.{IsRaw, RawAt, raw_text, way_of, normal, body}
 use Rattle.lines.specs.declared.LineTaken.{LineTaken}
-use Rattle.lines.specs.declared.LineTaken.TheVariants.{Next, Refused as Stopped}
-use Rattle.lines.specs.Table.{table_lines, Placed, behind, Took, Takes, reading}
+use Rattle.lines.specs.Table.{row_of, table_lines, AllLieIn, behind, Took, Takes, reading}
 use Rattle.lines.proofs.Laws.{strip-take, indent-tab, indent-white}
 use Rattle.lines.proofs.TableLaws.{took-none, took-both, took-entry, collect-bad, collect-full, collect-blanks}
 
@@ -32,8 +33,8 @@ unfolding way_of
 way-closed t = refl
 
 -- the same events before and after, written in another way
-pub took_of : {text t u : List ℕ} {c d : ℕ} {es fs gs hs : List Event} → es ≡ fs → gs ≡ hs → Took text t u c d fs hs → Took text t u c d es gs
-took_of {text} {t} {u} {c} {d} p q k = record { few = k.few; reads = ap (reading text t c) p ∙ k.reads ∙ ap (reading text u d) (sym q); placed = k.placed }
+pub took_of : {text : List ℕ} {t u : List Row} {c d : ℕ} {es fs gs hs : List Event} → es ≡ fs → gs ≡ hs → Took text t u c d fs hs → Took text t u c d es gs
+took_of {text} {t} {u} {c} {d} p q k = record { few = k.few; long = k.long; reads = ap (reading text t c) p ∙ k.reads ∙ ap (reading text u d) (sym q); placed = k.placed }
 
 module _ (text : List ℕ) (raw : Raw) (ok : IsRaw text raw) where
   abbrev n : ℕ
@@ -68,7 +69,7 @@ module _ (text : List ℕ) (raw : Raw) (ok : IsRaw text raw) where
   -- ---- read normally
 
   module _ (e : ℕ) (p : significant (raw_text text raw) ≡ part text start e) (t : tabbed (raw_text text raw) ≡ false) where
-    pub none-takes : (old : List ℕ) (count : ℕ) → count ≤ 2048 → e ≡ start → (raws : List (List ℕ))
+    pub none-takes : (old : List Row) (count : ℕ) → count ≤ 2048 → e ≡ start → (raws : List (List ℕ))
         → Took text old old count count (normal raw text raws) (scan Closed 0 (n + 1) raws)
     unfolding events_of literal_after literal_of opens_literal ends_with bytes same empty
     none-takes old count h s raws =
@@ -92,13 +93,13 @@ module _ (text : List ℕ) (raw : Raw) (ok : IsRaw text raw) where
         pub full-stops : (room : ℕ) → room ≡ 0 → (raws : List (List ℕ)) → collect room (normal raw text raws) ≡ refused 3 n 0
         full-stops room z raws = rw is-entry (collect-full room (line (start - raw.from) (part text start e) n) (scan (literal_after (raw_text text raw)) 0 (n + 1) raws) z)
 
-        pub entry-takes : (old : List ℕ) (count : ℕ) → 4 * count + 4 ≤ length old → count < 2048 → (raws : List (List ℕ))
-            → Took text old (sets old (4 * count) ((start - raw.from) ∷ start ∷ e ∷ n ∷ [])) count (count + 1)
+        pub entry-takes : (old : List Row) (count : ℕ) → count < length old → count < 2048 → (raws : List (List ℕ))
+            → Took text old (set old count (row_of (start - raw.from) start e n)) count (count + 1)
             (normal raw text raws) (scan (literal_of (part text start e) (start - raw.from)) 0 (n + 1) raws)
         unfolding literal_after
         entry-takes old count r l raws =
             took_of (rw (is-entry, p, raw-indent)) refl
-            (took-entry text old count (start - raw.from) start e n r (omega arith) k l (scan (literal_of (part text start e) (start - raw.from)) 0 (n + 1) raws))
+            (took-entry text old count (row_of (start - raw.from) start e n) r l (record { ordered = omega arith; inside = k }) (scan (literal_of (part text start e) (start - raw.from)) 0 (n + 1) raws))
 
   -- ---- a body line
 
@@ -114,16 +115,16 @@ module _ (text : List ℕ) (raw : Raw) (ok : IsRaw text raw) where
       pub full-stops-body : (room : ℕ) → room ≤ waiting → waiting ≤ n → collect room (body raw under waiting text raws) ≡ refused 3 (n - (waiting - room)) 0
       full-stops-body room h k = rw is_body (collect-blanks room waiting n (start - raw.from) (trim_end inner) (scan (Under under) 0 (n + 1) raws) h k)
 
-      pub body-takes : (old mid : List ℕ) (count e : ℕ) → e ≡ start + length (trim_end inner) → e ≤ raw.to → 4 * (count + waiting) + 4 ≤ length mid → count + waiting < 2048
+      pub body-takes : (old mid : List Row) (count e : ℕ) → e ≡ start + length (trim_end inner) → e ≤ raw.to → count + waiting < length mid → count + waiting < 2048
           → ((es : List Event) → Took text old mid count (count + waiting) (blanks_before waiting n (start - raw.from) ++ es) es)
-          → Took text old (sets mid (4 * (count + waiting)) ((start - raw.from) ∷ start ∷ e ∷ n ∷ [])) count (count + waiting + 1) (body raw under waiting text raws) (scan (Under under) 0 (n + 1) raws)
+          → Took text old (set mid (count + waiting) (row_of (start - raw.from) start e n)) count (count + waiting + 1) (body raw under waiting text raws) (scan (Under under) 0 (n + 1) raws)
       body-takes old mid count e p m r l b =
           let h : start ≤ raw.to = ok.low in
           let k : raw.to ≤ length text = ok.high in
           let cut : trim_end inner ≡ part text start e = end-part text start raw.to h k ∙ ap (part text start) (sym p) in
           took_of (rw (is_body, cut)) refl
           (took-both (b (entry (line (start - raw.from) (part text start e) n) ∷ scan (Under under) 0 (n + 1) raws))
-          (took-entry text mid (count + waiting) (start - raw.from) start e n r (omega arith) (omega arith) l (scan (Under under) 0 (n + 1) raws)))
+          (took-entry text mid (count + waiting) (row_of (start - raw.from) start e n) r l (record { ordered = omega arith; inside = omega arith }) (scan (Under under) 0 (n + 1) raws)))
 
   -- ---- which of these a line is
 
@@ -187,75 +188,51 @@ module _ (text : List ℕ) (raw : Raw) (ok : IsRaw text raw) where
 
 -- ---- the whole text
 
-pub takes_of : (text old new : List ℕ) (count n : ℕ) (f g : List (List ℕ) → List Event) (r : LineTaken) → ((raws : List (List ℕ)) → f raws ≡ g raws)
+pub takes_of : (text : List ℕ) (old new : List Row) (count n : ℕ) (f g : List (List ℕ) → List Event) (r : Result LineTaken Refusal) → ((raws : List (List ℕ)) → f raws ≡ g raws)
     → Takes text old new count n g r → Takes text old new count n f r
-takes_of text old new count n f g (Next c l w) e t = (t.0, λ raws. took_of (e raws) refl (t.1 raws))
-takes_of text old new count n f g (Stopped x) e t = λ raws. ap (collect (2048 - count)) (e raws) ∙ t raws
+takes_of text old new count n f g (Ok l) e t = (t.0, λ raws. took_of (e raws) refl (t.1 raws))
+takes_of text old new count n f g (Err x) e t = λ raws. ap (collect (2048 - count)) (e raws) ∙ t raws
 
-pub lines_start : (text table : List ℕ) → significant_lines text ≡ reading text table 0 (scan Closed 0 1 (split_lines text))
-unfolding significant_lines table_lines behind ◌>>=◌
-lines_start text table = go (collect 2048 (scan Closed 0 1 (split_lines text)))
+pub lines_start : (text : List ℕ) (rows : List Row) → significant_lines text ≡ reading text rows 0 (scan Closed 0 1 (split_lines text))
+unfolding significant_lines behind ◌>>=◌
+lines_start text rows = go (collect 2048 (scan Closed 0 1 (split_lines text)))
   where
     go : (a : Answer (List Line)) → a ≡ behind [] a
     go (good ls) = refl
     go (refused k l s) = refl
 
-pub lines-stop : (text table : List ℕ) (count : ℕ) (es : List Event) (k l s : ℕ) → collect (2048 - count) es ≡ refused k l s → reading text table count es ≡ refused k l s
+pub lines-stop : (text : List ℕ) (rows : List Row) (count : ℕ) (es : List Event) (k l s : ℕ) → collect (2048 - count) es ≡ refused k l s → reading text rows count es ≡ refused k l s
 unfolding behind ◌>>=◌
-lines-stop text table count es k l s e = rw e
+lines-stop text rows count es k l s e = rw e
 
-pub lines_end : (text table : List ℕ) (count : ℕ) (lit : Literal) (waiting n at : ℕ) → length text ≤ at
-    → reading text table count (scan lit waiting n (split_lines (drop at text))) ≡ good (table_lines text table count)
+pub lines_end : (text : List ℕ) (rows : List Row) (count : ℕ) (lit : Literal) (waiting n at : ℕ) → length text ≤ at
+    → reading text rows count (scan lit waiting n (split_lines (drop at text))) ≡ good (table_lines text (take count rows))
 unfolding split_lines scan collect behind ◌>>=◌
-lines_end text table count lit waiting n at h = rw (drop_of_length-le text {i = at} h) (go lit)
+lines_end text rows count lit waiting n at h = rw (drop_of_length-le text {i = at} h) (go lit)
   where
-    go : (lit : Literal) → reading text table count (scan lit waiting n []) ≡ good (table_lines text table count)
-    go Closed = ap good (append-nil (table_lines text table count))
-    go (Under u) = ap good (append-nil (table_lines text table count))
+    go : (lit : Literal) → reading text rows count (scan lit waiting n []) ≡ good (table_lines text (take count rows))
+    go Closed = ap good (append-nil (table_lines text (take count rows)))
+    go (Under u) = ap good (append-nil (table_lines text (take count rows)))
 
 -- what holds between two lines: the text from `at` on is still to be read
-pub record Scanned (text table : List ℕ) (at number count : ℕ) (literal : Literal) (waiting : ℕ) : Type 0 where
+pub record Scanned (text : List ℕ) (rows : List Row) (at number count : ℕ) (literal : Literal) (waiting : ℕ) : Type 0 where
   pub place : at ≤ length text + 1
   pub numbered : number ≤ at + 1
   pub some : 0 < number
   pub few : count ≤ 2048
   pub waits : waiting < number
-  pub long : length table ≡ 8192
-  pub lines : significant_lines text ≡ reading text table count (scan literal waiting number (split_lines (drop at text)))
-  pub placed : Placed text table count
+  pub long : length rows ≡ 2048
+  pub lines : significant_lines text ≡ reading text rows count (scan literal waiting number (split_lines (drop at text)))
+  pub placed : AllLieIn text (take count rows)
 
 module _ (text : List ℕ) (at newline number : ℕ) (raw : Raw) (r : RawAt text at newline number raw) where
-  pub is-raw : length text ≤ 65535 → newline ≤ length text → 0 < number → number ≤ 65535 → IsRaw text raw
-  is-raw h k s f = record {
-    short = h;
-    starts = r.starts ∙ ap (λ (x : ℕ). x + indent_of (raw_text text raw)) (sym r.from);
-    low = r.low;
-    high = omega (arith, r.high);
-    some = omega (arith, r.number');
-    few = omega (arith, r.number');
-  }
-
-  module _ (table : List ℕ) (count : ℕ) (literal : Literal) (waiting : ℕ) (v : Scanned text table at number count literal waiting) where
+  module _ (rows : List Row) (count : ℕ) (literal : Literal) (waiting : ℕ) (v : Scanned text rows at number count literal waiting) where
     -- the line at `at`, as the first of those to be read
-    next-line : significant_lines text ≡ reading text table count (scan literal waiting raw.number (raw_text text raw ∷ split_lines (drop (newline + 1) text)))
+    next-line : significant_lines text ≡ reading text rows count (scan literal waiting raw.number (raw_text text raw ∷ split_lines (drop (newline + 1) text)))
     next-line = v.lines ∙ rw (r.splits, r.number')
 
-    pub stops : (k l s : ℕ) → ((raws : List (List ℕ)) → collect (2048 - count) (scan literal waiting raw.number (raw_text text raw ∷ raws)) ≡ refused k l s)
-        → significant_lines text ≡ refused k l s
-    stops k l s h = next-line ∙ lines-stop text table count (scan literal waiting raw.number (raw_text text raw ∷ split_lines (drop (newline + 1) text))) k l s (h (split_lines (drop (newline + 1) text)))
-
-    pub goes_on : (new : List ℕ) (next : ℕ) (lit : Literal) (w : ℕ) → at ≤ newline → newline ≤ length text → length new ≡ 8192 → w ≤ raw.number
-        → ((raws : List (List ℕ)) → Took text table new count next (scan literal waiting raw.number (raw_text text raw ∷ raws)) (scan lit w (raw.number + 1) raws))
-        → Scanned text new (newline + 1) (number + 1) next lit w
-    goes_on new next lit w p q len f h =
-        let t = h (split_lines (drop (newline + 1) text)) in
-        record {
-          place = omega arith;
-          numbered = omega (arith, v.numbered);
-          some = omega arith;
-          few = t.few;
-          waits = omega (arith, r.number');
-          long = len;
-          lines = next-line ∙ t.reads ∙ rw r.number';
-          placed = t.placed v.placed;
-        }
+    pub stops : (e : Refusal) → ((raws : List (List ℕ)) → collect (2048 - count) (scan literal waiting raw.number (raw_text text raw ∷ raws)) ≡ refusal e)
+        → significant_lines text ≡ refusal e
+    stops e h =
+        let t = told_of e in
+        next-line ∙ lines-stop text rows count (scan literal waiting raw.number (raw_text text raw ∷ split_lines (drop (newline + 1) text))) t.number t.line t.step (h (split_lines (drop (newline + 1) text)))

@@ -1,9 +1,10 @@
 -- Section 1 of document 01, for contracts: what a reader of lines asks of a text and the table of its lines. Uses Base of `refusal`; Lines
 -- and Table of this crate. Assumes nothing.
-use Rattle.std.specs.Prelude.{◌≡◌, ℕ, ◌≤◌, List, [], ◌∷◌, ◌++◌, length}
-use Rattle.refusal.specs.Base.{ch}
-use Rattle.lines.specs.Lines.{Line, most_lines}
-use Rattle.lines.specs.Table.{table_size, table_lines, Placed}
+use Rattle.std.specs.Prelude.{◌≡◌, ℕ, ◌≤◌, List, [], ◌∷◌, ◌++◌, length, take}
+use Rattle.refusal.specs.Base.{ch, good}
+use Rattle.lines.specs.declared.Row.{Row}
+use Rattle.lines.specs.Lines.{Line, most_lines, significant_lines}
+use Rattle.lines.specs.Table.{table_lines, AllLieIn}
 
 -- a text that ends in a byte other than a newline
 pub record Closed (t : List ℕ) : Type 0 where
@@ -18,10 +19,19 @@ pub data Ended : List Line → Type 0 where
   blank : (l m : Line) (ls : List Line) → l.text ≡ [] → m.indent ≡ l.indent → Ended (m ∷ ls) → Ended (l ∷ m ∷ ls)
   full : (l : Line) (ls : List Line) → Closed l.text → Ended ls → Ended (l ∷ ls)
 
--- a text and the table of its lines
-pub record Ready (text table : List ℕ) (count : ℕ) : Type 0 where
+-- what is known of the lines of any text
+pub record AreLines (ls : List Line) : Type 0 where
+  pub few : length ls ≤ most_lines
+  pub ended : Ended ls
+
+-- a text and the rows of its lines
+pub record Ready (text : List ℕ) (rows : List Row) : Type 0 where
   pub short : length text ≤ 65535
-  pub whole : length table ≡ table_size
-  pub few : count ≤ most_lines
-  pub placed : Placed text table count
-  pub ended : Ended (table_lines text table count)
+  pub placed : AllLieIn text rows
+  pub lines : AreLines (table_lines text rows)
+
+-- the first `count` rows are those of the definition's lines
+pub record Filled (text : List ℕ) (rows : List Row) (count : ℕ) : Type 0 where
+  pub room : count ≤ length rows
+  pub lines : significant_lines text ≡ good (table_lines text (take count rows))
+  pub ready : Ready text (take count rows)

@@ -1,30 +1,27 @@
 // The significant lines of a text, as a table of entries (document 01, section 1).
 #![tactic(auto)]
 
-ghost use Rattle.std.specs.Prelude.{◌≡◌, false, List, [], ◌∷◌, ◌++◌, ℕ, ◌+◌, ◌*◌, ◌≤◌, ◌<◌, ◌^◌, length, drop, get_or};
-ghost use Rattle.std.proofs.lemmas.List.Edits.{sets};
-ghost use Rattle.refusal.specs.Base.{ends_with};
+ghost use Rattle.std.specs.Prelude.{◌≡◌, false, List, [], ◌∷◌, ◌++◌, ℕ, ◌+◌, ◌*◌, ◌≤◌, ◌<◌, ◌^◌, length, drop, get_or, MatchResult};
+ghost use Rattle.refusal.specs.Told.{refusal};
 ghost use Rattle.utf8.specs.Part.{part};
-ghost use Rattle.lines.specs.Lines.{indent_of, tabbed, after_plain, place_after, starts_comment, strip_comment, is_marker, opens_literal};
+ghost use Rattle.lines.specs.Lines.{indent_of, tabbed, after_plain, place_after, starts_comment, strip_comment, is_marker, opens_literal, significant_lines};
 ghost use Rattle.lines.specs.Lines.{literal_of, Event, blanks_before, scan, most_lines};
 ghost use Rattle.lines.specs.Dash as definition;
 ghost use Rattle.lines.specs.Dash.{is_dash};
 ghost use Rattle.lines.specs.Places.{Lacks, until_newline, LineEnds, IsRaw, RawAt, raw_text, normal, body, way_of};
-ghost use Rattle.lines.specs.Table.{table_size, line_at, Took, Takes, AgreesLines, IsEntry};
-ghost use Rattle.lines.specs.Ready.{Ready};
+ghost use Rattle.lines.specs.Table.{row_of, table_lines, line_at, Took, Takes};
+ghost use Rattle.lines.specs.Ready.{AreLines, Ready, Filled};
 
-use item::same_bytes;
 use refusal::Refusal;
+use std::marker::Model;
 use utf8::{trim_end, trim_start};
 
-// The most entries that a text may have, and the numbers of their table, four for each.
+/// The most lines that a text may have.
 pub const MOST_LINES: usize = 2048;
-
-pub const TABLE: usize = 8192;
 
 // Where a byte stands that is looked at for a comment: outside quotes, first or after a space, or elsewhere; in single or in
 // double quotes; behind a `\` in double quotes.
-#[derive(Clone, Copy)]
+#[derive(Clone, Copy, Debug, PartialEq, Eq)]
 pub enum Place {
     Fresh,
     Plain,
@@ -33,21 +30,15 @@ pub enum Place {
     Hidden,
 }
 
-// Whether a literal is open, and under which indentation.
-#[derive(Clone, Copy)]
+// Whether a literal is open, and under which indentation: an enum of its own, whose cases the definition of lines names.
+#[derive(Clone, Copy, Debug, PartialEq, Eq)]
 pub enum Literal {
     Closed,
     Under(usize),
 }
 
-#[derive(Clone, Copy)]
-pub enum LinesAnswer {
-    Read { count: usize },
-    Refused(Refusal),
-}
-
 // A line of the text: its places and its number. Its indentation ends at `start`.
-#[derive(Clone, Copy)]
+#[derive(Clone, Copy, Debug, PartialEq, Eq)]
 pub struct Raw {
     pub from: usize,
     pub start: usize,
@@ -55,33 +46,42 @@ pub struct Raw {
     pub number: usize,
 }
 
-// An entry of the table: its indentation, the start and the end of its text, and its line's number.
-#[derive(Clone, Copy)]
-pub struct Entry {
-    pub indent: usize,
-    pub start: usize,
-    pub end: usize,
-    pub number: u32,
+// A line in the table: its indentation, the start and the end of its text, and its number. No text is so long that they do not fit.
+#[derive(Clone, Copy, Debug, PartialEq, Eq)]
+pub struct Row {
+    pub indent: u16,
+    pub start: u16,
+    pub end: u16,
+    pub number: u16,
+}
+
+impl Row {
+    /// What stands in a table before a text is read.
+    pub const EMPTY: Row = Row {
+        indent: 0,
+        start: 0,
+        end: 0,
+        number: 0,
+    };
 }
 
 // What is known behind a line: how many entries there are, what is open, and how many blank lines of it wait.
-#[derive(Clone, Copy)]
-pub enum LineTaken {
-    Next {
-        count: usize,
-        literal: Literal,
-        waiting: usize,
-    },
-    Refused(Refusal),
+#[derive(Clone, Copy, Debug, PartialEq, Eq)]
+pub struct LineTaken {
+    pub count: usize,
+    pub literal: Literal,
+    pub waiting: usize,
 }
 
 // How a line is read: normally, or as a blank or a body line of the literal that is open under an indentation.
-#[derive(Clone, Copy)]
+#[derive(Clone, Copy, Debug, PartialEq, Eq)]
 pub enum Way {
     Normal,
     Blank(usize),
     Body(usize),
 }
+
+// Below, a part of the text goes by its places, not as a slice: rows and the trimming name places of the whole text.
 
 // Whether one of eight bytes is `b`: with no branch between them, they are looked at together.
 fn in_eight(text: &[u8], i: usize, b: u8) -> bool
@@ -98,7 +98,7 @@ fn in_eight(text: &[u8], i: usize, b: u8) -> bool
         | (text[i + 7] == b)
 }
 
-// A place up to which a part has no `b`.
+// A place up to which a part has no `b`: eight bytes at a time, which is faster than byte by byte.
 fn skip_eights(text: &[u8], from: usize, to: usize, b: u8) -> usize
     requires { (from ≤ to) × (to ≤ length text.now) }
     ensures { (from ≤ result) × (result ≤ to) × Lacks text.now from result b }
@@ -119,14 +119,13 @@ fn find_byte(text: &[u8], from: usize, to: usize, b: u8) -> usize
     ensures place { (from ≤ result) × (result ≤ to) × Lacks text.now from result b }
     ensures found { result < to → get_or text.now result 0 ≡ b }
 {
-    let mut i = skip_eights(text, from, to, b);
-    while i < to {
+    let start = skip_eights(text, from, to, b);
+    for i in start..to {
         if text[i] == b {
-            break;
+            return i;
         }
-        i += 1;
     }
-    i
+    to
 }
 
 // The place of the newline that ends the line at `at`, or the text's end.
@@ -138,20 +137,16 @@ fn newline_at(text: &[u8], at: usize) -> usize
 }
 
 // Where that line ends without the carriage return before its newline.
+#[tactic(auto, using(crate::proofs::LineEnds::ends_last, crate::proofs::LineEnds::ends_empty, crate::proofs::LineEnds::ends_return, crate::proofs::LineEnds::ends_other))]
 fn line_end(text: &[u8], at: usize, newline: usize) -> usize
     requires { (at < length text.now) × (newline ≡ at + until_newline (drop at text.now)) × (newline ≤ length text.now) }
     ensures { LineEnds text.now at newline result }
 {
-    if newline == text.len() {
-        return newline;
+    if newline < text.len() && at < newline && text[newline - 1] == b'\r' {
+        newline - 1
+    } else {
+        newline
     }
-    if newline == at {
-        return newline;
-    }
-    if text[newline - 1] == b'\r' {
-        return newline - 1;
-    }
-    newline
 }
 
 // Where the indentation of a part ends.
@@ -159,14 +154,12 @@ fn indent_end(text: &[u8], from: usize, to: usize) -> usize
     requires { (from ≤ to) × (to ≤ length text.now) }
     ensures { (result ≡ from + indent_of (part text.now from to)) × (result ≤ to) }
 {
-    let mut i = from;
-    while i < to {
+    for i in from..to {
         if text[i] != b' ' {
-            break;
+            return i;
         }
-        i += 1;
     }
-    i
+    to
 }
 
 // Whether a tab stands in the leading white space of a part.
@@ -178,6 +171,7 @@ fn tab_leads(text: &[u8], from: usize, to: usize) -> bool
     find_byte(text, from, end, b'\t') < end
 }
 
+#[tactic(auto, unfolding(crate::specs::Lines::after_plain))]
 fn after_plain(b: u8) -> Place
     ensures { result ≡ after_plain b }
 {
@@ -189,6 +183,7 @@ fn after_plain(b: u8) -> Place
     }
 }
 
+#[tactic(auto, unfolding(crate::specs::Lines::place_after))]
 fn after_double(b: u8) -> Place
     ensures { result ≡ place_after Place.Double b }
 {
@@ -199,6 +194,7 @@ fn after_double(b: u8) -> Place
     }
 }
 
+#[tactic(auto, unfolding(crate::specs::Lines::place_after))]
 fn after_single(b: u8) -> Place
     ensures { result ≡ place_after Place.Single b }
 {
@@ -209,28 +205,23 @@ fn after_single(b: u8) -> Place
 }
 
 // The place of the byte behind `b`.
+#[tactic(auto, unfolding(crate::specs::Lines::place_after))]
 fn place_after(place: Place, b: u8) -> Place
     ensures { result ≡ place_after place b }
 {
     match place {
-        Place::Fresh => after_plain(b),
-        Place::Plain => after_plain(b),
+        Place::Fresh | Place::Plain => after_plain(b),
         Place::Single => after_single(b),
         Place::Double => after_double(b),
         Place::Hidden => Place::Double,
     }
 }
 
+#[tactic(auto, unfolding(crate::specs::Lines::starts_comment))]
 fn starts_comment(place: Place, b: u8) -> bool
     ensures { result ≡ starts_comment place b }
 {
-    match place {
-        Place::Fresh => b == b'#',
-        Place::Plain => false,
-        Place::Single => false,
-        Place::Double => false,
-        Place::Hidden => false,
-    }
+    place == Place::Fresh && b == b'#'
 }
 
 // Where the comment of a part starts, or the part's end. Most parts have no `#`.
@@ -242,46 +233,30 @@ fn comment_at(text: &[u8], from: usize, to: usize) -> usize
         return to;
     }
     let mut place = Place::Fresh;
-    let mut i = from;
-    while i < to {
+    for i in from..to {
         let b = text[i];
         if starts_comment(place, b) {
-            break;
+            return i;
         }
         place = place_after(place, b);
-        i += 1;
     }
-    i
+    to
 }
 
+#[tactic(auto, using(crate::proofs::Laws::marker_length), unfolding(crate::specs::Lines::is_marker, refusal::specs::Base::same, refusal::specs::Base::bytes))]
 fn is_marker(t: &[u8]) -> bool
     ensures { result ≡ is_marker t.now }
 {
-    if same_bytes(t, b"---") {
-        return true;
-    }
-    same_bytes(t, b"...")
-}
-
-fn ends_with(t: &[u8], end: &[u8]) -> bool
-    ensures { result ≡ ends_with end.now t.now }
-{
-    if t.len() < end.len() {
-        return false;
-    }
-    let from = t.len() - end.len();
-    same_bytes(end, &t[from..])
+    matches!(t, b"---" | b"...")
 }
 
 fn opens_literal(t: &[u8]) -> bool
     ensures { result ≡ opens_literal t.now }
 {
-    if ends_with(t, b": |") {
-        return true;
-    }
-    ends_with(t, b": |-")
+    t.ends_with(b": |") || t.ends_with(b": |-")
 }
 
+#[tactic(auto, unfolding(crate::specs::Lines::literal_of))]
 fn literal_after(t: &[u8], indent: usize) -> Literal
     ensures { result ≡ literal_of t.now indent }
 {
@@ -292,63 +267,63 @@ fn literal_after(t: &[u8], indent: usize) -> Literal
     }
 }
 
-fn put_entry(table: &mut [u16], at: usize, indent: usize, from: usize, to: usize, number: usize)
-    requires { (length table.old ≡ table_size) × (at < most_lines) × (indent < 2 ^ 16) × (from < 2 ^ 16) × (to < 2 ^ 16)
-        × (number < 2 ^ 16) }
-    ensures { table.new ≡ sets table.old (4 * at) (indent ∷ from ∷ to ∷ number ∷ []) }
+// The row of a line of a text, which is short.
+fn make_row(indent: usize, start: usize, end: usize, number: usize) -> Row
+    requires { (indent < 2 ^ 16) × (start < 2 ^ 16) × (end < 2 ^ 16) × (number < 2 ^ 16) }
+    ensures { result ≡ row_of indent start end number }
 {
-    table[4 * at] = indent as u16;
-    table[4 * at + 1] = from as u16;
-    table[4 * at + 2] = to as u16;
-    table[4 * at + 3] = number as u16;
+    Row {
+        indent: indent as u16,
+        start: start as u16,
+        end: end as u16,
+        number: number as u16,
+    }
 }
 
 // The blank lines that wait before line `number`.
-fn put_blanks(table: &mut [u16], at: usize, waiting: usize, indent: usize, number: usize)
-    requires { (length table.old ≡ table_size) × (at + waiting ≤ most_lines) × (waiting ≤ number) × (indent < 2 ^ 16)
+fn put_blanks(rows: &mut [Row], at: usize, waiting: usize, indent: usize, number: usize)
+    requires { (length rows.old ≡ most_lines) × (at + waiting ≤ most_lines) × (waiting ≤ number) × (indent < 2 ^ 16)
         × (number < 2 ^ 16) }
     ensures { (text : List ℕ) (es : List Event)
-        → Took text table.old table.new at (at + waiting) (blanks_before waiting number indent ++ es) es }
+        → Took text rows.old rows.new at (at + waiting) (blanks_before waiting number indent ++ es) es }
 {
-    let mut left = waiting;
-    while left > 0 {
-        put_entry(table, at + (waiting - left), indent, 0, 0, number - left);
-        left -= 1;
+    for i in 0..waiting {
+        rows[at + i] = make_row(indent, 0, 0, number - waiting + i);
     }
 }
 
 // A line that is read normally.
-fn normal_line(text: &[u8], raw: Raw, table: &mut [u16], count: usize) -> LineTaken
-    requires { (length table.old ≡ table_size) × IsRaw text.now raw × (tabbed (raw_text text.now raw) ≡ false)
+fn normal_line(text: &[u8], raw: Raw, rows: &mut [Row], count: usize) -> Result<LineTaken, Refusal>
+    requires { (length rows.old ≡ most_lines) × IsRaw text.now raw × (tabbed (raw_text text.now raw) ≡ false)
         × (count ≤ most_lines) }
-    ensures { Takes text.now table.old table.new count raw.number
+    ensures { Takes text.now rows.old rows.new count raw.number
         (λ raws. normal raw text.now raws) result }
 {
     let start = raw.start;
     let line = raw.number as u32;
     let end = trim_end(text, start, comment_at(text, start, raw.to));
     if end == start {
-        return LineTaken::Next {
+        return Ok(LineTaken {
             count,
             literal: Literal::Closed,
             waiting: 0,
-        };
+        });
     }
     let significant = &text[start..end];
     if is_marker(significant) {
-        return LineTaken::Refused(Refusal::DocumentMarker { line });
+        return Err(Refusal::DocumentMarker { line });
     }
     let is_full = count == MOST_LINES;
     if is_full {
-        return LineTaken::Refused(Refusal::TooManyLines { line });
+        return Err(Refusal::TooManyLines { line });
     }
     let indent = start - raw.from;
-    put_entry(table, count, indent, start, end, raw.number);
-    LineTaken::Next {
+    rows[count] = make_row(indent, start, end, raw.number);
+    Ok(LineTaken {
         count: count + 1,
         literal: literal_after(significant, indent),
         waiting: 0,
-    }
+    })
 }
 
 // A body line of the literal that is open under the indentation `under`.
@@ -357,37 +332,30 @@ fn body_line(
     raw: Raw,
     under: usize,
     waiting: usize,
-    table: &mut [u16],
+    rows: &mut [Row],
     count: usize,
-) -> LineTaken
-    requires { (length table.old ≡ table_size) × IsRaw text.now raw × (tabbed (raw_text text.now raw) ≡ false) × (count ≤ most_lines)
+) -> Result<LineTaken, Refusal>
+    requires { (length rows.old ≡ most_lines) × IsRaw text.now raw × (tabbed (raw_text text.now raw) ≡ false) × (count ≤ most_lines)
         × (waiting < raw.number) }
-    ensures { Takes text.now table.old table.new count raw.number
+    ensures { Takes text.now rows.old rows.new count raw.number
         (λ raws. body raw under waiting text.now raws) result }
 {
     let start = raw.start;
     let number = raw.number;
     let room = MOST_LINES - count;
     if room <= waiting {
-        return LineTaken::Refused(Refusal::TooManyLines {
+        return Err(Refusal::TooManyLines {
             line: (number - (waiting - room)) as u32,
         });
     }
     let indent = start - raw.from;
-    put_blanks(table, count, waiting, indent, number);
-    put_entry(
-        table,
-        count + waiting,
-        indent,
-        start,
-        trim_end(text, start, raw.to),
-        number,
-    );
-    LineTaken::Next {
+    put_blanks(rows, count, waiting, indent, number);
+    rows[count + waiting] = make_row(indent, start, trim_end(text, start, raw.to), number);
+    Ok(LineTaken {
         count: count + waiting + 1,
         literal: Literal::Under(under),
         waiting: 0,
-    }
+    })
 }
 
 fn way_of(text: &[u8], raw: Raw, literal: Literal) -> Way
@@ -410,32 +378,30 @@ fn way_of(text: &[u8], raw: Raw, literal: Literal) -> Way
 fn read_line(
     text: &[u8],
     raw: Raw,
-    literal: Literal,
-    waiting: usize,
-    table: &mut [u16],
-    count: usize,
-) -> LineTaken
-    requires { (length table.old ≡ table_size) × IsRaw text.now raw × (count ≤ most_lines) × (waiting < raw.number) }
-    ensures { Takes text.now table.old table.new count raw.number
-        (λ raws. scan literal waiting raw.number (raw_text text.now raw ∷ raws)) result }
+    before: LineTaken,
+    rows: &mut [Row],
+) -> Result<LineTaken, Refusal>
+    requires { (length rows.old ≡ most_lines) × IsRaw text.now raw × (before.count ≤ most_lines) × (before.waiting < raw.number) }
+    ensures { Takes text.now rows.old rows.new before.count raw.number
+        (λ raws. scan before.literal before.waiting raw.number (raw_text text.now raw ∷ raws)) result }
 {
-    let way = way_of(text, raw, literal);
+    let way = way_of(text, raw, before.literal);
     if let Way::Blank(under) = way {
-        return LineTaken::Next {
-            count,
+        return Ok(LineTaken {
             literal: Literal::Under(under),
-            waiting: waiting + 1,
-        };
+            waiting: before.waiting + 1,
+            ..before
+        });
     }
     if tab_leads(text, raw.start, raw.to) {
-        return LineTaken::Refused(Refusal::TabInIndentation {
+        return Err(Refusal::TabInIndentation {
             line: raw.number as u32,
         });
     }
     if let Way::Body(under) = way {
-        return body_line(text, raw, under, waiting, table, count);
+        return body_line(text, raw, under, before.waiting, rows, before.count);
     }
-    normal_line(text, raw, table, count)
+    normal_line(text, raw, rows, before.count)
 }
 
 // The line that starts at `at`.
@@ -452,101 +418,122 @@ fn raw_at(text: &[u8], at: usize, newline: usize, number: usize) -> Raw
     }
 }
 
-fn fill(text: &[u8], table: &mut [u16]) -> LinesAnswer
-    requires { (length text.now ≤ 65535) × (length table.old ≡ table_size) }
-    ensures { AgreesLines text.now table.new result }
+// A `while`, since each turn goes on at the place that the last one found.
+fn fill(text: &[u8], rows: &mut [Row]) -> Result<usize, Refusal>
+    requires { (length text.now ≤ 65535) × (length rows.old ≡ most_lines) }
+    ensures { MatchResult result (Filled text.now rows.new) (λ e. significant_lines text.now ≡ refusal e) }
 {
     let mut at = 0;
     let mut number = 1;
-    let mut count = 0;
-    let mut literal = Literal::Closed;
-    let mut waiting = 0;
+    let mut taken = LineTaken {
+        count: 0,
+        literal: Literal::Closed,
+        waiting: 0,
+    };
     while at < text.len() {
         let newline = newline_at(text, at);
         let raw = raw_at(text, at, newline, number);
-        match read_line(text, raw, literal, waiting, table, count) {
-            LineTaken::Next {
-                count: c,
-                literal: l,
-                waiting: w,
-            } => {
-                count = c;
-                literal = l;
-                waiting = w;
-            }
-            LineTaken::Refused(e) => return LinesAnswer::Refused(e),
+        // `?` would copy what is known once more for each line, which is slower.
+        match read_line(text, raw, taken, rows) {
+            Ok(next) => taken = next,
+            Err(e) => return Err(e),
         }
         at = newline + 1;
         number += 1;
     }
-    LinesAnswer::Read { count }
+    Ok(taken.count)
 }
 
-// The significant lines of a text, as entries at the front of the table: each is its indentation, the start and the end of its
-// text, and its line's number.
-pub fn read_lines(text: &[u8], table: &mut [u16; TABLE]) -> LinesAnswer
+/// The significant lines of a text, as rows at the front of the table: how many there are. Of a refusal anything is left in the rows.
+pub fn read_lines(text: &[u8], rows: &mut [Row; MOST_LINES]) -> Result<usize, Refusal>
     requires { length text.now ≤ 65535 }
-    ensures { AgreesLines text.now table.new result }
+    ensures { MatchResult result (Filled text.now rows.new) (λ e. significant_lines text.now ≡ refusal e) }
 {
-    fill(text, table)
-}
-
-// A number of the table; the caller owes nothing for the cast.
-fn wide(n: u16) -> usize
-    ensures { (result ≡ n) × (result ≤ 65535) }
-{
-    n as usize
-}
-
-// Entry `i` of a table.
-pub fn entry_at(table: &[u16], i: usize) -> Entry
-    requires { 4 * i + 4 ≤ length table.now }
-    ensures { IsEntry table.now i result }
-{
-    Entry {
-        indent: wide(table[4 * i]),
-        start: wide(table[4 * i + 1]),
-        end: wide(table[4 * i + 2]),
-        number: wide(table[4 * i + 3]) as u32,
-    }
-}
-
-// The text of entry `i`.
-pub fn line_text<'a>(text: &'a [u8], table: &[u16], count: usize, i: usize) -> &'a [u8]
-    requires { Ready text.now table.now count × (i < count) }
-    ensures result_value { result.now ≡ (line_at text.now table.now i).text }
-    ensures short { length result.now ≤ 65535 }
-{
-    let entry = entry_at(table, i);
-    let start = entry.start;
-    let end = entry.end;
-    &text[start..end]
+    fill(text, rows)
 }
 
 // Whether a line is `-` or starts with `- `.
+#[tactic(auto, unfolding(crate::specs::Dash::dashed, refusal::specs::Base::same, refusal::specs::Base::bytes))]
 pub fn dashed(line: &[u8]) -> bool
     ensures { result ≡ definition.dashed line.now }
 {
-    if line.len() == 0 {
-        return false;
-    }
-    if line[0] != b'-' {
-        return false;
-    }
-    if line.len() == 1 {
-        return true;
-    }
-    line[1] == b' '
+    matches!(line, [b'-'] | [b'-', b' ', ..])
 }
 
-// Whether entry `i` is such a line at this indentation.
-pub fn dash_at(text: &[u8], table: &[u16], count: usize, i: usize, indent: usize) -> bool
-    requires { Ready text.now table.now count × (i < count) }
-    ensures { result ≡ is_dash indent (line_at text.now table.now i) }
-{
-    let entry = entry_at(table, i);
-    if entry.indent != indent {
-        return false;
+/// The significant lines of a text: the text, and a row for each line.
+#[derive(Drop)]
+pub struct Lines<'a> {
+    text: &'a [u8],
+    rows: &'a [Row],
+}
+
+impl<'a> Model for Lines<'a> {
+    ghost use Rattle.std.specs.Prelude.{List};
+    ghost use Rattle.lines.specs.Lines.{Line};
+
+    ghost Value = { List Line };
+
+    ghost use Rattle.lines.specs.Table.{table_lines};
+    ghost use Rattle.lines.specs.Ready.{Ready};
+
+    ghost view = { λ s. table_lines s.text.now s.rows.now };
+
+    ghost invariant = { λ s. Ready s.text.now s.rows.now };
+}
+
+impl<'a> Lines<'a> {
+    /// The lines that `read_lines` found, by the rows that it filled.
+    pub fn new(text: &'a [u8], rows: &'a [Row]) -> Lines<'a>
+        requires { Ready text.now rows.now }
+        ensures { result ≡ table_lines text.now rows.now }
+    {
+        Lines { text, rows }
     }
-    dashed(line_text(text, table, count, i))
+
+    /// How many lines there are.
+    pub fn len(&self) -> usize
+        ensures value { result ≡ length self.now }
+        ensures lines { AreLines self.now }
+    {
+        self.rows.len()
+    }
+
+    /// The indentation of line `i`.
+    pub fn indent(&self, i: usize) -> usize
+        requires { i < length self.now }
+        ensures value { result ≡ (line_at self.now i).indent }
+        ensures narrow { result ≤ 65535 }
+    {
+        let rows = self.rows;
+        usize::from(rows[i].indent)
+    }
+
+    /// The number of line `i` in the text, from 1.
+    pub fn number(&self, i: usize) -> u32
+        requires { i < length self.now }
+        ensures { result ≡ (line_at self.now i).number }
+    {
+        let rows = self.rows;
+        u32::from(rows[i].number)
+    }
+
+    /// The text of line `i`.
+    pub fn text(&self, i: usize) -> &'a [u8]
+        requires { i < length self.now }
+        ensures value { result.now ≡ (line_at self.now i).text }
+        ensures short { length result.now ≤ 65535 }
+        ensures few { i < most_lines }
+    {
+        let rows = self.rows;
+        let row = rows[i];
+        &self.text[usize::from(row.start)..usize::from(row.end)]
+    }
+
+    /// Whether line `i` is `-` or starts with `- `, at this indentation.
+    pub fn dash_at(&self, i: usize, indent: usize) -> bool
+        requires { i < length self.now }
+        ensures { result ≡ is_dash indent (line_at self.now i) }
+    {
+        self.indent(i) == indent && dashed(self.text(i))
+    }
 }

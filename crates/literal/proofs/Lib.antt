@@ -2,5 +2,4 @@ pub mod Blanks
 pub mod Ends
 pub mod Laws
 pub mod Whole
-pub mod Walk
 pub mod Open

@@ -1,31 +1,23 @@
-// Literals, written into the work bytes (document 01, section 3). Lines are read from a table of entries, of which the first
-// `count` count.
+// Literals, written as they are read.
 #![tactic(auto)]
 
-ghost use Rattle.std.specs.Prelude.{◌≡◌, [], ◌∷◌, ◌++◌, ◌+◌, ◌*◌, ◌-◌, ◌≤◌, ◌<◌, ◌^◌, length, take, replicate, get_or, if◌then◌else◌};
-ghost use Rattle.std.proofs.lemmas.List.Edits.{sets};
+ghost use Rattle.std.specs.Prelude.{◌≡◌, [], ◌∷◌, ◌++◌, ◌+◌, ◌-◌, ◌≤◌, ◌<◌, length, take, replicate, if◌then◌else◌};
 ghost use Rattle.refusal.specs.Base.{ch};
 ghost use Rattle.item.specs.Tree.{str};
-ghost use Rattle.lines.specs.Lines.{most_lines};
-ghost use Rattle.lines.specs.Table.{table_size};
-ghost use Rattle.lines.specs.Ready.{Ready};
+ghost use Rattle.writer.specs.Writing.{cap_of, room_of, Appends};
+ghost use Rattle.lines.specs.Table.{line_at};
+ghost use Rattle.lines.specs.Ready.{AreLines};
 ghost use Rattle.literal.specs.Literal as definition;
 ghost use Rattle.literal.specs.Contract.{ReadsLines, ReadsPart};
-ghost use Rattle.literal.specs.Walk.{extra_spaces, body_from, Ordered, Extent, whole};
+ghost use Rattle.literal.specs.Walk.{extra_spaces, body_from, Extent, whole};
 
-use item::{copy, put_header};
-use lines::entry_at;
+use item::Kind;
+use lines::Lines;
 use refusal::Refusal;
-
-// What reading lines answers: the first line that is left, and the bytes of work that are used.
-#[derive(Clone, Copy)]
-pub enum BlockRead {
-    Done { next: usize, used: usize },
-    Refused(Refusal),
-}
+use writer::Writer;
 
 // The body of a literal: the first line behind it, and how many bytes its lines give.
-#[derive(Clone, Copy)]
+#[derive(Clone, Copy, Debug, PartialEq, Eq)]
 pub struct Body {
     pub next: usize,
     pub len: usize,
@@ -34,7 +26,8 @@ pub struct Body {
 // The spaces before a text of `size` bytes that stands `deeper` than the literal's first line. A blank line has none, whatever
 // stands behind it.
 fn extra_spaces(size: usize, deeper: usize) -> usize
-    ensures { (result ≡ extra_spaces size deeper) × (result ≤ deeper) }
+    ensures value { result ≡ extra_spaces size deeper }
+    ensures most { result ≤ deeper }
 {
     if size == 0 {
         return 0;
@@ -43,80 +36,62 @@ fn extra_spaces(size: usize, deeper: usize) -> usize
 }
 
 // The lines from `first` on that are indented by at least `indent`.
-fn extent(table: &[u16], count: usize, first: usize, indent: usize) -> Body
-    requires { (length table.now ≡ table_size) × (count ≤ most_lines) × (first ≤ count) × Ordered table.now count }
-    ensures { Extent table.now count first indent result }
+fn extent(lines: &Lines<'_>, first: usize, indent: usize) -> Body
+    requires { first ≤ length lines.now }
+    ensures { Extent lines.now first indent result }
 {
-    let mut i = first;
+    let count = lines.len();
     let mut len = 0;
-    while i < count {
-        let entry = entry_at(table, i);
-        if entry.indent < indent {
-            break;
+    for i in first..count {
+        let deep = lines.indent(i);
+        if deep < indent {
+            return Body { next: i, len };
         }
-        let size = entry.end - entry.start;
-        len += extra_spaces(size, entry.indent - indent) + size + 1;
-        i += 1;
+        let size = lines.text(i).len();
+        len += extra_spaces(size, deep - indent) + size + 1;
     }
-    Body { next: i, len }
+    Body { next: count, len }
 }
 
-fn put_spaces(out: &mut [u8], at: usize, n: usize)
-    requires { at + n ≤ length out.old }
-    ensures { out.new ≡ sets out.old at (replicate n (ch " ")) }
+fn put_spaces(n: usize, writer: &mut Writer<'_>)
+    requires { n ≤ room_of writer.old }
+    ensures { Appends writer.old writer.new (replicate n (ch " ")) }
 {
-    let mut i = 0;
-    while i < n {
-        out[at + i] = b' ';
-        i += 1;
-    }
+    let at = writer.used;
+    let out = &mut *writer.out;
+    out[at..at + n].fill(b' ');
+    writer.used += n;
 }
 
 // A line of a literal, without its newline if that would stand at `to`.
-fn put_line(line: &[u8], spaces: usize, out: &mut [u8], at: usize, to: usize)
-    requires { (at + spaces + length line.now ≤ to) × (to ≤ length out.old) }
-    ensures { out.new ≡ sets out.old at
-        (take (to - at) (replicate spaces (ch " ") ++ line.now ++ (ch "\n" ∷ []))) }
+fn put_line(line: &[u8], spaces: usize, to: usize, writer: &mut Writer<'_>)
+    requires line { writer.old.used + spaces + length line.now ≤ to }
+    requires room { to ≤ cap_of writer.old }
+    ensures { Appends writer.old writer.new
+        (take (to - writer.old.used) (replicate spaces (ch " ") ++ line.now ++ (ch "\n" ∷ []))) }
 {
-    put_spaces(out, at, spaces);
-    copy(out, at + spaces, line);
-    let end = at + spaces + line.len();
-    if end < to {
-        out[end] = b'\n';
+    put_spaces(spaces, writer);
+    writer.put(line);
+    if writer.used() < to {
+        writer.push(b'\n');
     }
 }
 
 // The lines that `extent` counts, up to `to`.
-fn put_lines(
-    text: &[u8],
-    table: &[u16],
-    count: usize,
-    first: usize,
-    indent: usize,
-    out: &mut [u8],
-    at: usize,
-    to: usize,
-)
-    requires { Ready text.now table.now count × (first ≤ count)
-        × (to ≤ length out.old) × (length out.old ≤ 2 ^ 20) × (to ≤ at + length (body_from text.now table.now count indent first))
-        × (at + length (body_from text.now table.now count indent first) ≤ to + 1) }
-    ensures { out.new ≡ sets out.old at
-        (take (to - at) (body_from text.now table.now count indent first)) }
+fn put_lines(lines: &Lines<'_>, first: usize, indent: usize, to: usize, writer: &mut Writer<'_>)
+    requires first { first ≤ length lines.now }
+    requires room { to ≤ cap_of writer.old }
+    requires most { to ≤ writer.old.used + length (body_from lines.now indent first) }
+    requires least { writer.old.used + length (body_from lines.now indent first) ≤ to + 1 }
+    ensures { Appends writer.old writer.new (take (to - writer.old.used) (body_from lines.now indent first)) }
 {
-    let mut i = first;
-    let mut p = at;
-    while i < count {
-        let entry = entry_at(table, i);
-        if entry.indent < indent {
+    for i in first..lines.len() {
+        let deep = lines.indent(i);
+        if deep < indent {
             break;
         }
-        let start = entry.start;
-        let end = entry.end;
-        let size = end - start;
-        let spaces = extra_spaces(size, entry.indent - indent);
-        put_line(&text[start..end], spaces, out, p, to);
-        p += spaces + size + 1;
-        i += 1;
+        let line = lines.text(i);
+        put_line(line, extra_spaces(line.len(), deep - indent), to, writer);
     }
 }
 
@@ -131,71 +106,54 @@ fn kept_len(len: usize, strip: bool) -> usize
     len
 }
 
-// The literal of which line `i` is the first.
+// The literal of which line `i` is the first, and the first line behind it.
 fn put_literal(
-    text: &[u8],
-    table: &[u16],
-    count: usize,
+    lines: &Lines<'_>,
     i: usize,
     indent: usize,
     strip: bool,
-    out: &mut [u8],
-    at: usize,
-) -> BlockRead
-    requires { Ready text.now table.now count × (i < count) × (indent ≡ get_or table.now (4 * i) 0) × (at ≤ length out.old)
-        × (length out.old ≤ 2 ^ 20) }
-    ensures { ReadsLines (λ work ls. whole work strip at (definition.literal_lines indent ls)) text.now
-        table.now count i out.old out.new at result }
+    writer: &mut Writer<'_>,
+) -> Result<usize, Refusal>
+    requires lines { AreLines lines.now }
+    requires line { i < length lines.now }
+    requires indent { indent ≡ (line_at lines.now i).indent }
+    ensures { ReadsLines (λ ls. whole (cap_of writer.old) strip writer.old.used (definition.literal_lines indent ls))
+        lines.now i writer.old writer.new result }
 {
-    let body = extent(table, count, i, indent);
+    let body = extent(lines, i, indent);
     let len = kept_len(body.len, strip);
-    if out.len() - at < 6 + len {
-        return BlockRead::Refused(Refusal::WorkTooShort);
-    }
-    put_header(out, at, 3, len);
-    put_lines(text, table, count, i, indent, out, at + 6, at + 6 + len);
-    BlockRead::Done {
-        next: body.next,
-        used: at + 6 + len,
-    }
+    writer.reserve(6 + len)?;
+    writer.header(Kind::Str, len);
+    let to = writer.used() + len;
+    put_lines(lines, i, indent, to, writer);
+    Ok(body.next)
 }
 
 // A literal of no lines, where `i` is the first line that is left.
-fn put_empty(out: &mut [u8], at: usize, i: usize) -> BlockRead
-    requires { (at ≤ length out.old) × (length out.old ≤ 2 ^ 20) }
-    ensures { ReadsPart (λ work ls. definition.leaf work at (str []) ls) i out.old out.new at result }
+fn put_empty(i: usize, writer: &mut Writer<'_>) -> Result<usize, Refusal>
+    ensures { ReadsPart (definition.leaf (cap_of writer.old) writer.old.used (str [])) i writer.old writer.new result }
 {
-    if out.len() - at < 6 {
-        return BlockRead::Refused(Refusal::WorkTooShort);
-    }
-    put_header(out, at, 3, 0);
-    BlockRead::Done {
-        next: i,
-        used: at + 6,
-    }
+    writer.reserve(6)?;
+    writer.header(Kind::Str, 0);
+    Ok(i)
 }
 
-// The literal of a key that is indented by `under`, from line `i` on.
+/// The literal of a key that is indented by `under`, from line `i` on, and the first line behind it; `|-` strips.
 pub fn literal(
-    text: &[u8],
-    table: &[u16],
-    count: usize,
+    lines: &Lines<'_>,
     i: usize,
     under: usize,
     strip: bool,
-    out: &mut [u8],
-    at: usize,
-) -> BlockRead
-    requires { Ready text.now table.now count × (i ≤ count) × (at ≤ length out.old) × (length out.old ≤ 2 ^ 20) }
-    ensures { ReadsLines (λ work ls. definition.literal work strip under at ls) text.now table.now count i
-        out.old out.new at result }
+    writer: &mut Writer<'_>,
+) -> Result<usize, Refusal>
+    requires { i ≤ length lines.now }
+    ensures { ReadsLines (definition.literal (cap_of writer.old) strip under writer.old.used) lines.now i writer.old writer.new result }
 {
-    if i == count {
-        return put_empty(out, at, i);
+    if i < lines.len() {
+        let indent = lines.indent(i);
+        if indent > under {
+            return put_literal(lines, i, indent, strip, writer);
+        }
     }
-    let entry = entry_at(table, i);
-    if entry.indent > under {
-        return put_literal(text, table, count, i, entry.indent, strip, out, at);
-    }
-    put_empty(out, at, i)
+    put_empty(i, writer)
 }

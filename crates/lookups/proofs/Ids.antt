@@ -13,7 +13,8 @@ use Rattle.item.specs.Encode.{encode}
 use Rattle.item.proofs.Size.{item-length}
 use Rattle.item.proofs.Same.{same_refl, same-eq}
 use Rattle.entries.specs.Entries.{Stands, nth_item}
-use Rattle.entries.specs.declared.Span.TheVariants.{At, Nowhere}
+use Rattle.std.specs.Prelude.{None, Some}
+use Rattle.entries.specs.declared.Span.{Span}
 use Rattle.entries.proofs.Standing.{stands-part, item-content}
 use Rattle.meaning.specs.Meaning.{Step}
 use Rattle.meaning.specs.Record.{text_item, step_parts, step_item}
@@ -34,15 +35,15 @@ no-id (b ∷ id) st e = absurd (omega arith)
 
 -- the second of the parts, which begin at `from`
 module _ {s : List ℕ} {at from : ℕ} (st : Step) (q : from ≡ at + 6) (h : Stands s at (step_item st)) (w : length s ≤ 2 ^ 20) where
-  pub id-is : (id : List ℕ) {start end : ℕ} → (length id ≡ 0 → ⊥) → At start end ≡ nth_item s from 1 → same (take (end - (start + 6)) (drop (start + 6) s)) id ≡ has_id id st
+  pub id-is : (id : List ℕ) {span : Span} → (length id ≡ 0 → ⊥) → Some span ≡ nth_item s from 1 → same (take (span.end - (span.start + 6)) (drop (span.start + 6) s)) id ≡ has_id id st
   unfolding has_id empty step_parts text_item encode
   id-is [] n e = absurd (n refl)
-  id-is (b ∷ id) {start} {end} n e =
-      let p : StepPart s at st 1 start end = step_part st h w 1 (omega arith) (e ∙ ap (λ (k : ℕ). nth_item s k 1) q) in
-      let i : Stands s (start + 6) st.id = item-content 3 st.id p.stands in
-      ap (λ (t : List ℕ). same t (b ∷ id)) (stands-part i (end - (start + 6)) (omega (arith, p.ends, item-length 3 st.id)))
+  id-is (b ∷ id) {span} n e =
+      let p : StepPart s at st 1 span.start span.end = step_part st h w 1 (omega arith) (e ∙ ap (λ (k : ℕ). nth_item s k 1) q) in
+      let i : Stands s (span.start + 6) st.id = item-content 3 st.id p.stands in
+      ap (λ (t : List ℕ). same t (b ∷ id)) (stands-part i (span.end - (span.start + 6)) (omega (arith, p.ends, item-length 3 st.id)))
 
-  pub second-there : {X : Type 0} → Nowhere ≡ nth_item s from 1 → X
+  pub second-there : {X : Type 0} → None ≡ nth_item s from 1 → X
   second-there e = no_part st h w 1 (omega arith) (e ∙ ap (λ (k : ℕ). nth_item s k 1) q)
 
 -- ---- the search

@@ -20,14 +20,15 @@ use Rattle.item.specs.Places.{header_at}
 use Rattle.item.specs.declared.Found as search
 use Rattle.item.specs.declared.Found.TheVariants as found
 use Rattle.entries.specs.Entries.{Stands, Holds, place_of, span_at}
-use Rattle.entries.specs.declared.Span.TheVariants.{At, Nowhere}
+use Rattle.std.specs.Prelude.{Some}
 use Rattle.entries.proofs.Standing.{stands-is, stands_at, item-content, value-head, Valued}
 use Rattle.entries.proofs.Values.{mapped}
 use Rattle.entries.proofs.Walking.{value-stands, others-stand}
 use Rattle.nodes.proofs.Texts.{int_at, int-size}
 use Rattle.meaning.specs.Meaning.{Step}
 use Rattle.meaning.specs.Record.{text_item, step_parts, step_item}
-use Rattle.record.specs.Jobs.{Found, nothing, part}
+use Rattle.record.specs.Jobs.{Found, nothing}
+use Rattle.record.specs.Contract.{span_of}
 use Rattle.lookups.specs.Lookups.{beside, in_mapping, value_in, item_part, times_in}
 use Rattle.record.proofs.StepPlaces.{StepPart, value-part}
 
@@ -91,7 +92,7 @@ module _ {s : List ℕ} (key : List ℕ) {from to : ℕ} (es : Entries) (h : Hol
     record Beside : Type 0 where
       value : Yaml
       is : beside key from es ≡ some (p, value)
-      spans : span_at p (header_at s p) ≡ At p (p + length (encode value))
+      spans : span_at p (header_at s p) ≡ Some (record { start = p; end = p + length (encode value) })
 
     here : Beside
     unfolding span_at
@@ -104,16 +105,9 @@ module _ {s : List ℕ} (key : List ℕ) {from to : ℕ} (es : Entries) (h : Hol
             let q' : beside key from es ≡ some (p, v) = q ∙ ap (λ (k : ℕ). some (k, v)) n in
             record { value = v; is = q'; spans = ap (span_at p) (value-head v w (beside-found key from es h.ranged h.lies.stands q').stands) }
 
-    pub part-beside : {start stop : ℕ} → At start stop ≡ span_at p (header_at s p) → good (part start stop) ≡ good (item_part (beside key from es))
+    pub item-beside : span_of (span_at p (header_at s p)) ≡ good (item_part (beside key from es))
     unfolding item_part maybe
-    part-beside {start} {stop} q =
-        let x = q ∙ here.spans in
-        let b : start ≡ p = cc x in
-        let c : stop ≡ p + length (encode here.value) = cc x in
-        rw (here.is, b, c)
-
-    pub no_part : {X : Type 0} → Nowhere ≡ span_at p (header_at s p) → X
-    no_part q = absurd (let z : ◌≡◌ {A = ℕ} 0 1 = cc (q, here.spans) in omega arith)
+    item-beside = ap span_of here.spans ∙ sym (rw here.is)
 
 -- ---- in a value
 

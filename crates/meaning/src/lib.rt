@@ -1,72 +1,53 @@
-// The names that document 01 keeps for the keys of a scenario.
+// The names that have a meaning as keys of a scenario, of its defaults and steps.
 #![tactic(auto)]
 
-ghost use Rattle.std.specs.Prelude.{◌≡◌, [], ◌∷◌};
-ghost use Rattle.refusal.specs.Base.{one_of};
+ghost use Rattle.std.specs.Prelude.{◌≡◌};
+ghost use Rattle.std.specs.List.{list_any};
+ghost use Rattle.refusal.specs.Base.{same, one_of};
 ghost use Rattle.meaning.specs.Meaning.{step_fields, built_in_steps};
 ghost use Rattle.meaning.specs.Meanings.{top_keys};
 
 use item::same_bytes;
 
-fn one_of_three(key: &[u8], a: &[u8], b: &[u8], c: &[u8]) -> bool
-    ensures { result ≡ one_of key.now (a.now ∷ b.now ∷ c.now ∷ []) }
+fn one_of(key: &[u8], names: &[&[u8]]) -> bool
+    ensures { result ≡ list_any (λ name. same key.now name.now) names.now }
 {
-    if same_bytes(key, a) {
-        return true;
-    }
-    if same_bytes(key, b) {
-        return true;
-    }
-    same_bytes(key, c)
-}
-
-fn one_of_five(key: &[u8], a: &[u8], b: &[u8], c: &[u8], d: &[u8], e: &[u8]) -> bool
-    ensures { result ≡ one_of key.now
-        (a.now ∷ b.now ∷ c.now ∷ d.now ∷ e.now ∷ []) }
-{
-    if one_of_three(key, a, b, c) {
-        return true;
-    }
-    if same_bytes(key, d) {
-        return true;
-    }
-    same_bytes(key, e)
+    names.iter().any(|name| same_bytes(key, name))
 }
 
 pub fn is_top_key(key: &[u8]) -> bool
     ensures { result ≡ one_of key.now top_keys }
 {
-    if one_of_three(key, b"schema", b"name", b"description") {
-        return true;
-    }
-    if one_of_three(key, b"image", b"tags", b"setup") {
-        return true;
-    }
-    one_of_three(key, b"defaults", b"fail_on", b"steps")
+    one_of(
+        key,
+        &[
+            b"schema",
+            b"name",
+            b"description",
+            b"image",
+            b"tags",
+            b"setup",
+            b"defaults",
+            b"fail_on",
+            b"steps",
+        ],
+    )
 }
 
 pub fn is_step_field(key: &[u8]) -> bool
     ensures { result ≡ one_of key.now step_fields }
 {
-    one_of_five(
+    one_of(
         key,
-        b"name",
-        b"id",
-        b"timeout",
-        b"continue_on_error",
-        b"expect",
+        &[b"name", b"id", b"timeout", b"continue_on_error", b"expect"],
     )
 }
 
 pub fn is_built_in(key: &[u8]) -> bool
     ensures { result ≡ one_of key.now built_in_steps }
 {
-    one_of_five(
+    one_of(
         key,
-        b"repeat",
-        b"set",
-        b"delay",
-        b"expect_not",
-        b"ui.expect",
+        &[b"repeat", b"set", b"delay", b"expect_not", b"ui.expect"],
     )
 }

@@ -6,10 +6,10 @@ use mathlib.Core.List.{List, [], ◌∷◌, map}
 use mathlib.Core.Bool.{false, ◌||◌, not}
 use mathlib.Core.Option.{Option, none, some}
 use lib.Dec.{ltb, leb}
-use lib.IntN.{pos, negsuc}
+use lib.IntN.{pos}
 use lib.ListN.{length}
 use Rattle.refusal.specs.Base.{Answer, good, refused, ◌>>=◌, maybe, bytes, same, one_of}
-use Rattle.item.specs.Tree.{Yaml, null, bool, int, str, seq, dict, Items, end, ◌▸◌, Entries, done, pair, get}
+use Rattle.item.specs.Tree.{Yaml, null, int, seq, dict, Items, end, ◌▸◌, Entries, done, pair, get}
 use Rattle.meaning.specs.Meaning.{Step, Meaning, Defaults, built_in_steps}
 use Rattle.meaning.specs.Record.{step_item, fields, record_of}
 use Rattle.meaning.specs.Meanings.{top_keys, schema, document, known_keys, scalar_at, check_schema, sequence_or, scalar_default, defaults_from, no_defaults, defaults_of, top_of, expect_of, commands, command_of, expect_allowed, step_of, step_at, steps_from, meaning_of}
@@ -28,12 +28,8 @@ use Rattle.named.proofs.Trees.{admits, lines_then, tree_ofs}
 
 documents : (y : Yaml) → Counts (document y)
 unfolding document lined stepped
-documents null = plainly refl refl
-documents (bool b) = plainly refl refl
-documents (int z) = plainly refl refl
-documents (str s) = plainly refl refl
-documents (seq ys) = plainly refl refl
 documents (dict es) = never
+documents _ = plainly refl refl
 
 all_known_lem : (es : Entries) → Counts (known_keys es)
 unfolding known_keys lined stepped
@@ -50,19 +46,13 @@ unfolding sequence_or
 sequences k p q none = never
 sequences k p q (some null) = never
 sequences k p q (some (seq ys)) = never
-sequences k p q (some (bool b)) = plainly p q
-sequences k p q (some (int z)) = plainly p q
-sequences k p q (some (str s)) = plainly p q
-sequences k p q (some (dict es)) = plainly p q
+sequences k p q (some _) = plainly p q
 
 scalar_defaults : (y : Yaml) → Counts (scalar_default y)
 unfolding scalar_default lined stepped
-scalar_defaults null = never
-scalar_defaults (bool b) = never
-scalar_defaults (int z) = never
-scalar_defaults (str s) = never
 scalar_defaults (seq ys) = plainly refl refl
 scalar_defaults (dict es) = plainly refl refl
+scalar_defaults _ = never
 
 defaults_froms : (d : Defaults) (es : Entries) → Counts (defaults_from d es)
 unfolding defaults_from lined stepped
@@ -75,10 +65,7 @@ unfolding defaults_of lined stepped
 defaultses none = never
 defaultses (some null) = never
 defaultses (some (dict es)) = defaults_froms no_defaults es
-defaultses (some (bool b)) = plainly refl refl
-defaultses (some (int z)) = plainly refl refl
-defaultses (some (str s)) = plainly refl refl
-defaultses (some (seq ys)) = plainly refl refl
+defaultses (some _) = plainly refl refl
 
 tops : (y : Yaml) → Counts (top_of y)
 unfolding top_of lined stepped
@@ -97,11 +84,7 @@ module _ (l k : ℕ) (h : 1 ≤ k) where
   unfolding expect_of lined
   expects none = never
   expects (some (dict es)) = never
-  expects (some null) = stepwise refl h
-  expects (some (bool b)) = stepwise refl h
-  expects (some (int z)) = stepwise refl h
-  expects (some (str s)) = stepwise refl h
-  expects (some (seq ys)) = stepwise refl h
+  expects (some _) = stepwise refl h
 
   command : (es : Entries) → Counts (command_of k es)
   unfolding command_of lined
@@ -117,11 +100,7 @@ module _ (l k : ℕ) (h : 1 ≤ k) where
   step-counted : (y : Yaml) → Counts (step_at l k y)
   unfolding step_at step_of lined
   step-counted (dict es) = binds (expects (get (bytes "expect") es)) λ e. binds (command (commands es)) λ c. next (allowed c.0 e) never
-  step-counted null = stepwise refl h
-  step-counted (bool b) = stepwise refl h
-  step-counted (int z) = stepwise refl h
-  step-counted (str s) = stepwise refl h
-  step-counted (seq ys) = stepwise refl h
+  step-counted _ = stepwise refl h
 
 steps-counted : (k : ℕ) (lines : List ℕ) (ys : Items) → 1 ≤ k → Counts (steps_from k lines ys)
 unfolding steps_from
@@ -225,13 +204,7 @@ value-counted b number key = binds (opens b) λ m. binds (numbered-steps m numbe
 times-ins : (k : ℕ) → 1 ≤ k → (v : Yaml) → Counts (times_in k v)
 unfolding times_in lined
 times-ins k h (int (pos (suc n))) = next (ensures (ltb (suc n) (2 ^ 32)) (stepwise refl h)) never
-times-ins k h (int (pos zero)) = stepwise refl h
-times-ins k h (int (negsuc n)) = stepwise refl h
-times-ins k h null = stepwise refl h
-times-ins k h (bool b) = stepwise refl h
-times-ins k h (str s) = stepwise refl h
-times-ins k h (seq ys) = stepwise refl h
-times-ins k h (dict es) = stepwise refl h
+times-ins k h _ = stepwise refl h
 
 -- number 0 is refused before `times` is looked for
 pub times-counted : (b : List ℕ) (number : ℕ) → Counts (times b number)

@@ -1,5 +1,6 @@
-// Which lines and steps the answers name (document 01, "Answers"): the same of every job, proved from the contracts of the jobs alone.
-#![tactic(auto)]
+// Which lines and steps the answers name (document 01, "Answers"): the same of every job, proved from the contracts of the jobs alone. Each
+// function is a statement about one job, so none stands for another.
+#![tactic(auto, using(crate::proofs::Named::jobs))]
 
 ghost use Rattle.tree.specs.Tree as trees;
 ghost use Rattle.scenario.specs.Scenario as scenarios;

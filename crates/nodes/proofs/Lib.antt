@@ -1,3 +1,4 @@
-pub mod Storing
+pub mod Writing
 mod Numbers
 pub mod Texts
+pub mod Items

@@ -1,240 +1,127 @@
-// What is written of a tree where it stands in its bytes: scalars as key text, values as they are. It is stored as far as it fits and
-// summed beyond that, so that one walk serves for both. At most 2 ^ 20 bytes of a buffer count, so a part takes at most 2 ^ 21; a place
-// counts on beyond the buffer's end, and the bounds of 2 ^ 50 and more keep it below 2 ^ 64.
+// What is read of a tree where it stands in its bytes, and what is written of it: scalars as key text, values as they are. The bytes go along
+// as a slice with their bound in each contract, since `entries` asks for both so, and a struct of them would be taken apart at each call.
 #![tactic(auto)]
 
-ghost use Rattle.std.specs.Prelude.{◌≡◌, [], true, false, ◌+◌, ◌-◌, ◌≤◌, ◌<◌, ◌^◌, length, take, drop, get_or, ltb};
-ghost use Rattle.std.proofs.Math.Option.{Option, none};
-ghost use Rattle.std.proofs.lemmas.List.Edits.{sets};
-ghost use Rattle.refusal.specs.Base.{maybe};
-ghost use Rattle.item.specs.Tree as trees;
+ghost use Rattle.std.specs.Prelude.{◌≡◌, ℕ, ◌+◌, ◌≤◌, ◌^◌, List, IfSome, length, take, drop};
+ghost use Rattle.std.proofs.Math.Option.{Option};
 ghost use Rattle.item.specs.Tree.{Yaml, Ranged};
-ghost use Rattle.item.specs.Encode as items;
-ghost use Rattle.item.specs.Encode.{head, number, encode, signed};
+ghost use Rattle.item.specs.Encode.{number, encode, signed};
 ghost use Rattle.item.specs.Decode.{untwos};
-ghost use Rattle.number.specs.Integers.{int_text};
-ghost use Rattle.scalar.specs.Scalars.{key_text, bool_text};
-ghost use Rattle.entries.specs.Entries.{Stands, Finds};
-ghost use Rattle.nodes.specs.Contract.{Stored, Near, RendersAs, RendersNear};
+ghost use Rattle.scalar.specs.Scalars.{key_text};
+ghost use Rattle.entries.specs.Entries.{Finds};
+ghost use Rattle.meaning.specs.Record.{text_item, optional};
+ghost use Rattle.nodes.specs.Writing.{Goes, Writes};
+ghost use Rattle.nodes.specs.Contract.{IsItem, FindsItem, told_of, ReadsFound, scalar_text, text_or_empty, or_null};
 
-use item::{Found, Header, copy, header_at, put_header};
-use number::{int_len, put_int_text};
-use refusal::Refusal;
+mod output;
 
-// An integer by its sign and its magnitude.
+use item::{Found, Integer, Item, Kind, header_at};
+use output::HEADER;
+pub use output::RecordWriter;
+
+/// A value that has a text: a boolean, an integer, or a string.
 #[derive(Clone, Copy)]
-pub struct Integer {
-    pub negative: bool,
-    pub magnitude: u64,
+pub enum Scalar<'a> {
+    Bool(bool),
+    Int(Integer),
+    Str(&'a [u8]),
 }
 
-// What rendering a value as key text answers: where the text's item ends.
-#[derive(Clone, Copy)]
-pub enum Rendered {
-    Text(usize),
-    NoScalar,
-}
-
-// What writing a part answers: where it ends.
-#[derive(Clone, Copy)]
-pub enum Part {
-    Done(usize),
-    Refused(Refusal),
-}
-
-// Copies bytes if they fit, and tells where they end.
-pub fn put(out: &mut [u8], at: usize, bytes: &[u8]) -> usize
-    requires { (length bytes.now ≤ 2 ^ 20) × (at ≤ 2 ^ 52) }
-    ensures { Stored out.old out.new at bytes.now result }
-{
-    let end = at + bytes.len();
-    if end <= out.len() {
-        copy(out, at, bytes);
-    }
-    end
-}
-
-// The header of an item that ends at `end`, if that fits.
-pub fn close(out: &mut [u8], at: usize, kind: usize, end: usize)
-    requires { (at + 6 ≤ end) × (kind < 2 ^ 16) × (length out.old ≤ 2 ^ 20) }
-    ensures { (end ≤ length out.old → out.new ≡ sets out.old at (head kind (end - at - 6)))
-        × (length out.new ≡ length out.old) }
-{
-    if end <= out.len() {
-        put_header(out, at, kind, end - at - 6);
-    }
-}
-
-// A string's item.
-pub fn put_text(out: &mut [u8], at: usize, text: &[u8]) -> usize
-    requires { (length text.now ≤ 2 ^ 20) × (at ≤ 2 ^ 51) × (length out.old ≤ 2 ^ 20) }
-    ensures { Stored out.old out.new at (items.item 3 text.now) result }
-{
-    let end = put(out, at + 6, text);
-    close(out, at, 3, end);
-    end
-}
-
-// A null item.
-pub fn put_null(out: &mut [u8], at: usize) -> usize
-    requires { (at ≤ 2 ^ 51) × (length out.old ≤ 2 ^ 20) }
-    ensures { Stored out.old out.new at (encode trees.null) result }
-{
-    let end = at + 6;
-    close(out, at, 0, end);
-    end
-}
-
-// A byte as a wider number; the caller owes nothing for the cast.
-fn wide(b: u8) -> u64
-    ensures { (result ≡ b) × (result < 256) }
-{
-    b as u64
-}
-
-// The number of eight bytes, the lowest first.
-fn number_at(s: &[u8], at: usize) -> u64
-    requires { at + 8 ≤ length s.now }
-    ensures { result ≡ number (take 8 (drop at s.now)) }
-{
-    let a = wide(s[at]);
-    let b = wide(s[at + 1]);
-    let c = wide(s[at + 2]);
-    let d = wide(s[at + 3]);
-    let e = wide(s[at + 4]);
-    let f = wide(s[at + 5]);
-    let g = wide(s[at + 6]);
-    let h = wide(s[at + 7]);
-    a + 256 * b
-        + 65536 * c
-        + 16777216 * d
-        + 4294967296 * e
-        + 1099511627776 * f
-        + 281474976710656 * g
-        + 72057594037927936 * h
-}
-
+/// The integer of 64 bits whose item's content begins at `at`.
 pub fn integer_at(s: &[u8], at: usize) -> Integer
     requires { at + 8 ≤ length s.now }
     ensures { signed result.negative result.magnitude ≡ untwos (number (take 8 (drop at s.now))) }
 {
-    let n = number_at(s, at);
-    if n < 9223372036854775808 {
-        return Integer {
-            negative: false,
-            magnitude: n,
-        };
-    }
+    let n = u64::from_le_bytes([
+        s[at],
+        s[at + 1],
+        s[at + 2],
+        s[at + 3],
+        s[at + 4],
+        s[at + 5],
+        s[at + 6],
+        s[at + 7],
+    ]);
+    let negative = n >= 1 << 63;
     Integer {
-        negative: true,
-        magnitude: 18446744073709551615 - n + 1,
+        negative,
+        magnitude: if negative { n.wrapping_neg() } else { n },
     }
 }
 
-fn put_integer(out: &mut [u8], at: usize, negative: bool, magnitude: u64) -> usize
-    requires { (at ≤ 2 ^ 51) × (length out.old ≤ 2 ^ 20) }
-    ensures { Stored out.old out.new at (items.item 3 (int_text (signed negative magnitude))) result }
+/// The item of a value that was looked for, if it was found and an item stands there.
+pub fn item_found(s: &[u8], found: Found) -> Option<Item>
+    requires { length s.now ≤ 2 ^ 20 }
+    ensures inside { IfSome result (λ item. (6 ≤ item.from) × (item.from ≤ item.to) × (item.to ≤ length s.now)) }
+    ensures item { (o : Option Yaml) → Finds s.now o found → FindsItem s.now o result }
 {
-    let len = int_len(negative, magnitude);
-    let end = at + 6 + len;
-    if end <= out.len() {
-        put_header(out, at, 3, len);
-        put_int_text(out, at + 6, negative, magnitude);
-    }
-    end
-}
-
-fn put_bool(s: &[u8], from: usize, out: &mut [u8], at: usize) -> usize
-    requires { (from < length s.now) × (at ≤ 2 ^ 51) × (length out.old ≤ 2 ^ 20) }
-    ensures { Stored out.old out.new at (items.item 3 (bool_text (ltb 0 (get_or s.now from 0)))) result }
-{
-    if s[from] == 0 {
-        return put_text(out, at, b"false");
-    }
-    put_text(out, at, b"true")
-}
-
-// The value at `p` as key text.
-pub fn render(s: &[u8], p: usize, out: &mut [u8], at: usize) -> Rendered
-    requires { (length s.now ≤ 2 ^ 20) × (at ≤ 2 ^ 51) × (length out.old ≤ 2 ^ 20) }
-    ensures renders_near { RendersNear out.old out.new at result }
-    ensures text { (y : Yaml) → Ranged y → Stands s.now p (encode y)
-        → RendersAs (key_text y) out.old out.new at result }
-{
-    let head = header_at(s, p);
-    let Header::Item { kind, from, to } = head else {
-        return Rendered::NoScalar;
+    let Found::At(p) = found else {
+        return None;
     };
-    if kind == 1 {
-        if from == to {
-            return Rendered::NoScalar;
-        }
-        return Rendered::Text(put_bool(s, from, out, at));
+    header_at(s, p).ok()
+}
+
+/// What has a text of an item; null and collections have none.
+pub fn scalar_of(s: &[u8], item: Item) -> Option<Scalar<'_>>
+    requires { (item.from ≤ item.to) × (item.to ≤ length s.now) }
+    ensures { (y : Yaml) → Ranged y → IsItem s.now y item → told_of result ≡ key_text y }
+{
+    let is_bool = item.kind == Kind::Bool as usize;
+    if is_bool && item.from < item.to {
+        return Some(Scalar::Bool(s[item.from] != 0));
     }
-    if kind == 2 {
-        if to - from < 8 {
-            return Rendered::NoScalar;
-        }
-        let n = integer_at(s, from);
-        return Rendered::Text(put_integer(out, at, n.negative, n.magnitude));
+    let is_int = item.kind == Kind::Int as usize;
+    if is_int && item.to - item.from >= 8 {
+        return Some(Scalar::Int(integer_at(s, item.from)));
     }
-    let is_string = kind == 3;
+    let is_string = item.kind == Kind::Str as usize;
     if is_string {
-        return Rendered::Text(put(out, at, &s[p..to]));
+        return Some(Scalar::Str(&s[item.from..item.to]));
     }
-    Rendered::NoScalar
+    None
 }
 
-// The text of a value that was looked for, or an empty one where there is no scalar.
-pub fn put_found(s: &[u8], found: Found, out: &mut [u8], at: usize) -> usize
-    requires { (length s.now ≤ 2 ^ 20) × (at ≤ 2 ^ 51) × (length out.old ≤ 2 ^ 20) }
-    ensures near { Near out.old out.new at result }
-    ensures text { (o : Option Yaml) → Finds s.now o found
-        → Stored out.old out.new at (items.item 3 (maybe (maybe o none key_text) [] (λ t. t))) result }
+/// The same of a value that was looked for.
+pub fn scalar_found(s: &[u8], found: Found) -> Option<Scalar<'_>>
+    requires { length s.now ≤ 2 ^ 20 }
+    ensures { (o : Option Yaml) → Finds s.now o found → told_of result ≡ scalar_text o }
 {
-    let Found::At(p) = found else {
-        return put_text(out, at, b"");
-    };
-    match render(s, p, out, at) {
-        Rendered::Text(end) => end,
-        Rendered::NoScalar => put_text(out, at, b""),
-    }
+    scalar_of(s, item_found(s, found)?)
 }
 
-// The same, or null where there is no scalar.
-pub fn put_optional(s: &[u8], found: Found, out: &mut [u8], at: usize) -> usize
-    requires { (length s.now ≤ 2 ^ 20) × (at ≤ 2 ^ 51) × (length out.old ≤ 2 ^ 20) }
-    ensures near { Near out.old out.new at result }
-    ensures text { (o : Option Yaml) → Finds s.now o found
-        → Stored out.old out.new at (maybe (maybe o none key_text) (encode trees.null) (λ t. items.item 3 t)) result }
+/// The text of a value that was looked for, or an empty one where there is no scalar.
+pub fn put_found(s: &[u8], found: Found, writer: &mut RecordWriter<'_>)
+    requires { length s.now ≤ 2 ^ 20 }
+    ensures goes { Goes writer.old writer.new }
+    ensures text { (t : List ℕ) → ReadsFound s.now text_or_empty found t → Writes writer.old writer.new (text_item t) }
 {
-    let Found::At(p) = found else {
-        return put_null(out, at);
-    };
-    match render(s, p, out, at) {
-        Rendered::Text(end) => end,
-        Rendered::NoScalar => put_null(out, at),
+    match scalar_found(s, found) {
+        Some(scalar) => writer.scalar(scalar),
+        None => writer.text(b""),
     }
 }
 
-// The item of a value that was looked for, as it stands, or null.
-pub fn put_value(s: &[u8], found: Found, out: &mut [u8], at: usize) -> usize
-    requires { (length s.now ≤ 2 ^ 20) × (at ≤ 2 ^ 51) × (length out.old ≤ 2 ^ 20) }
-    ensures near { Near out.old out.new at result }
-    ensures value { (o : Option Yaml) → Finds s.now o found
-        → Stored out.old out.new at (encode (maybe o trees.null (λ v. v))) result }
+/// The same, or null where there is no scalar.
+pub fn put_optional(s: &[u8], found: Found, writer: &mut RecordWriter<'_>)
+    requires { length s.now ≤ 2 ^ 20 }
+    ensures goes { Goes writer.old writer.new }
+    ensures text { (t : Option (List ℕ)) → ReadsFound s.now scalar_text found t
+        → Writes writer.old writer.new (encode (optional t)) }
 {
-    let Found::At(p) = found else {
-        return put_null(out, at);
-    };
-    let head = header_at(s, p);
-    let Header::Item {
-        kind: _,
-        from: _,
-        to,
-    } = head
-    else {
-        return put_null(out, at);
-    };
-    put(out, at, &s[p..to])
+    match scalar_found(s, found) {
+        Some(scalar) => writer.scalar(scalar),
+        None => writer.null(),
+    }
+}
+
+/// The item of a value that was looked for, as it stands, or null.
+pub fn put_value(s: &[u8], found: Found, writer: &mut RecordWriter<'_>)
+    requires { length s.now ≤ 2 ^ 20 }
+    ensures goes { Goes writer.old writer.new }
+    ensures value { (v : Yaml) → ReadsFound s.now or_null found v → Writes writer.old writer.new (encode v) }
+{
+    match item_found(s, found) {
+        Some(item) => writer.put(&s[item.from - HEADER..item.to]),
+        None => writer.null(),
+    }
 }

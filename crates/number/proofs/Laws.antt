@@ -13,8 +13,8 @@ use lib.ListN.{length, set, drop, get_or, drop_of_length-le, length-append}
 use lib.Seq.{sets, drop-cons}
 use borrow.Author.Tests.{lt-ltb, le-ltb, le-leb, lt-leb, eq-eqb, ne_eqb, ltb-true, ltb-false}
 use Rattle.refusal.specs.Base.{ch, empty}
-use Rattle.utf8.specs.Utf8.{◌‥◌}
-use Rattle.utf8.proofs.Ranges.{inside, below, above}
+use Rattle.utf8.specs.Utf8.{within}
+use Rattle.std.specs.Char.{is_ascii_digit}
 use Rattle.item.specs.Encode.{signed}
 use Rattle.item.proofs.Runs.{sets-before}
 use Rattle.number.specs.Integers.{is_digit, all_digits, decimal_from, zero_first, digits, positive, negative, integer, decimal_of, int_text}
@@ -66,17 +66,13 @@ module _ (s : List ℕ) (i : ℕ) where
   from_end neg limit n h e = rw (drop_of_length-le s {i = i} h, le-leb n limit e)
 
   module _ (n : ℕ) (h : i < length s) where
-    pub from_low : get_or s i 0 < ch "0" → digits_from n (drop i s) ≡ none
-    unfolding digits_from all_digits is_digit
-    from_low a = rw (drop-cons s i 0 h, below (ch "0" ‥ ch "9") (get_or s i 0) a)
+    pub from_other : is_ascii_digit (get_or s i 0) ≡ false → digits_from n (drop i s) ≡ none
+    unfolding digits_from all_digits is_digit within
+    from_other e = rw (drop-cons s i 0 h, e)
 
-    pub from-high : ch "9" < get_or s i 0 → digits_from n (drop i s) ≡ none
-    unfolding digits_from all_digits is_digit
-    from-high a = rw (drop-cons s i 0 h, above (ch "0" ‥ ch "9") (get_or s i 0) a)
-
-    pub from_on : ch "0" ≤ get_or s i 0 → get_or s i 0 ≤ ch "9" → digits_from n (drop i s) ≡ digits_from (n * 10 + (get_or s i 0 - ch "0")) (drop (i + 1) s)
-    unfolding digits_from all_digits is_digit decimal_from
-    from_on a b = rw (add-one, drop-cons s i 0 h, inside (ch "0" ‥ ch "9") (get_or s i 0) a b)
+    pub from_on : is_ascii_digit (get_or s i 0) ≡ true → digits_from n (drop i s) ≡ digits_from (n * 10 + (get_or s i 0 - ch "0")) (drop (i + 1) s)
+    unfolding digits_from all_digits is_digit within decimal_from
+    from_on e = rw (add-one, drop-cons s i 0 h, e)
 
 -- ---- the sign
 

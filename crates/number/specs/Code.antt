@@ -1,15 +1,15 @@
--- Section 2 of document 01, for the contracts inside the crate: what the code's answers say in the words of the definitions. Uses Base of
+-- For the contracts of this crate: what the code's answers say in the words of the definitions. Uses Base of
 -- `refusal`; Encode of `item`. Assumes nothing.
-use Rattle.std.specs.Prelude.{ℕ, List, ◌∷◌, Bool, true, false, leb, ℤ, if◌then◌else◌}
+use Rattle.std.specs.Prelude.{ℕ, List, ◌∷◌, Bool, true, false, leb, ℤ, Some, None, Option as Chance, if◌then◌else◌}
 use Rattle.std.proofs.Math.Option.{Option, none, some}
 use Rattle.refusal.specs.Base.{ch}
 use Rattle.item.specs.Encode.{signed}
-use Rattle.number.specs.declared.Number.{Number}
-use Rattle.number.specs.declared.Number.TheVariants as number
+use Rattle.item.specs.declared.Integer.{Integer}
 
-abbrev pub int_of : Number → Option ℤ
-int_of (number.Int negative magnitude) = some (signed negative magnitude)
-int_of number.No = none
+-- the code's answer in the words of the definitions
+abbrev pub int_of : Chance Integer → Option ℤ
+int_of (Some n) = some (signed n.negative n.magnitude)
+int_of None = none
 
 -- a magnitude of at most `limit`, with its sign
 unfoldable pub bounded : Bool → ℕ → Option ℕ → Option ℤ

@@ -1,4 +1,4 @@
-// Integers: decimal digits read and written (document 01, section 2).
+// Integers: decimal digits read and written.
 #![tactic(auto)]
 
 ghost use Rattle.std.specs.Prelude.{◌≡◌, ◌+◌, ◌≤◌, ◌<◌, ◌^◌, length, drop};
@@ -7,81 +7,60 @@ ghost use Rattle.item.specs.Encode.{signed};
 ghost use Rattle.number.specs.Integers.{zero_first, digits, integer, decimal_of, int_text};
 ghost use Rattle.number.specs.Code.{int_of, bounded, minused};
 
-// An integer by its sign and its magnitude, or no integer.
-#[derive(Clone, Copy)]
-pub enum Number {
-    Int { negative: bool, magnitude: u64 },
-    No,
-}
-
-// A byte as a wider number; the caller owes nothing for the cast.
-fn wide(b: u8) -> u64
-    ensures { (result ≡ b) × (result < 256) }
-{
-    b as u64
-}
+use item::Integer;
 
 // Whether `from` and what is behind it are several bytes, of which the first is a zero.
 fn zero_first(t: &[u8], from: usize) -> bool
     requires { from < length t.now }
     ensures { result ≡ zero_first (drop from t.now) }
 {
-    if t.len() - from < 2 {
-        return false;
-    }
-    t[from] == b'0'
+    let are_several = t.len() - from >= 2;
+    are_several && t[from] == b'0'
 }
 
 // The number that the digits from `from` on make, one or several of which the first is no zero, if it is at most `limit`.
-fn digits(t: &[u8], from: usize, negative: bool, limit: u64) -> Number
-    requires { (from ≤ length t.now) × (9 ≤ limit) × (limit ≤ 2 ^ 63) }
+fn digits(t: &[u8], from: usize, negative: bool, limit: u64) -> Option<Integer>
+    requires in_range { from ≤ length t.now }
+    requires one_digit { 9 ≤ limit }
+    requires small { limit ≤ 2 ^ 63 }
     ensures { int_of result ≡ bounded negative limit (digits (drop from t.now)) }
 {
-    if from == t.len() {
-        return Number::No;
+    if from == t.len() || zero_first(t, from) {
+        return None;
     }
-    if zero_first(t, from) {
-        return Number::No;
-    }
-    let mut i = from;
     let mut magnitude: u64 = 0;
-    while i < t.len() {
-        let b = t[i];
-        if b < b'0' {
-            return Number::No;
+    for &b in &t[from..] {
+        if !b.is_ascii_digit() {
+            return None;
         }
-        if b > b'9' {
-            return Number::No;
-        }
-        let d = wide(b) - 48;
+        let d = u64::from(b - b'0');
         if magnitude > (limit - d) / 10 {
-            return Number::No;
+            return None;
         }
         magnitude = magnitude * 10 + d;
-        i += 1;
     }
-    Number::Int {
+    Some(Integer {
         negative,
         magnitude,
-    }
+    })
 }
 
-// An optional minus, digits, 64 bits.
-pub fn integer(t: &[u8]) -> Number
+/// The integer that a text says by an optional minus and decimal digits, if it has 64 bits.
+pub fn integer(t: &[u8]) -> Option<Integer>
     ensures { int_of result ≡ integer t.now }
 {
-    if t.len() == 0 {
-        return Number::No;
-    }
-    if t[0] == b'-' {
+    let first = t.first()?;
+    if *first == b'-' {
         return digits(t, 1, true, 9223372036854775808);
     }
     digits(t, 0, false, 9223372036854775807)
 }
 
-// How many decimal digits a number has.
+// How many decimal digits a number has. This and `put_decimal` stay two short loops: a crate that prints integers would write into a buffer
+// of its own, and another copy would bring the digits to their place.
 fn decimal_len(n: u64) -> usize
-    ensures { (result ≡ length (decimal_of 20 n)) × (result ≤ 20) }
+    ensures length { result ≡ length (decimal_of 20 n) }
+    ensures at_most { result ≤ 20 }
 {
     let mut left = n;
     let mut count = 1;
@@ -115,32 +94,28 @@ fn put_decimal(out: &mut [u8], at: usize, n: u64)
 }
 
 // Whether an integer's text has a minus: that of `-0` has none.
-fn shows_minus(negative: bool, magnitude: u64) -> bool
-    ensures { int_text (signed negative magnitude) ≡ minused result (decimal_of 20 magnitude) }
+fn shows_minus(n: Integer) -> bool
+    ensures { int_text (signed n.negative n.magnitude) ≡ minused result (decimal_of 20 n.magnitude) }
 {
-    if negative {
-        return magnitude != 0;
-    }
-    false
+    n.negative && n.magnitude != 0
 }
 
-pub fn int_len(negative: bool, magnitude: u64) -> usize
-    ensures { (result ≡ length (int_text (signed negative magnitude))) × (result ≤ 21) }
+/// How many bytes the text has that `put_int_text` writes.
+pub fn int_len(n: Integer) -> usize
+    ensures length { result ≡ length (int_text (signed n.negative n.magnitude)) }
+    ensures at_most { result ≤ 21 }
 {
-    if shows_minus(negative, magnitude) {
-        return 1 + decimal_len(magnitude);
-    }
-    decimal_len(magnitude)
+    usize::from(shows_minus(n)) + decimal_len(n.magnitude)
 }
 
-pub fn put_int_text(out: &mut [u8], at: usize, negative: bool, magnitude: u64)
-    requires { at + length (int_text (signed negative magnitude)) ≤ length out.old }
-    ensures { out.new ≡ sets out.old at (int_text (signed negative magnitude)) }
+pub fn put_int_text(out: &mut [u8], at: usize, n: Integer)
+    requires { at + length (int_text (signed n.negative n.magnitude)) ≤ length out.old }
+    ensures { out.new ≡ sets out.old at (int_text (signed n.negative n.magnitude)) }
 {
-    if shows_minus(negative, magnitude) {
+    if shows_minus(n) {
         out[at] = b'-';
-        put_decimal(out, at + 1, magnitude);
-        return;
+        put_decimal(out, at + 1, n.magnitude);
+    } else {
+        put_decimal(out, at, n.magnitude);
     }
-    put_decimal(out, at, magnitude);
 }

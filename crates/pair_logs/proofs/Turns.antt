@@ -1,18 +1,18 @@
 -- A turn of the walk: what it places, and how the lists grow. Assumes nothing.
 use mathlib.Core.Path.{◌≡◌, refl, sym, ap, ◌∙◌}
 use mathlib.Core.Logic.{◌⊎◌, inl, inr, ⊎_elim}
-use Prim.Native.Nat.{ℕ, zero, suc, ◌+◌, ◌-◌, ◌≤◌, ◌<◌}
+use Prim.Native.Nat.{ℕ, zero, suc, ◌+◌, ◌-◌, ◌*◌, ◌≤◌, ◌<◌}
 use native.Mathlib.Numerals.{add-one}
 use native.Mathlib.Omega.{arith}
 use mathlib.Core.List.{List, [], ◌∷◌}
 use mathlib.Core.Bool.{Bool, true, false, ◌&&◌, and_comm}
 use lib.Dec.{leb}
 use lib.ListN.{length, get_or, drop, set, length-drop, drop_of_length-le}
-use lib.Seq.{sets, length-sets, drop-cons}
+use lib.Seq.{sets, drop-cons}
 use borrow.Author.Tests.{leb-true, leb-false, le-leb, lt-leb, lt-ltb, le-ltb}
 use Rattle.pair_logs.specs.PairLogs.{nothing, pair, lone_hammer, lone_sound, near, place, all_alone, walk, pairing, never_falls, flat}
 use Rattle.pair_logs.specs.Contract.{Turns, walk_at, Puts, Going, range, Rests, Written, WrittenAll}
-use Rattle.pair_logs.specs.declared.Turn.TheVariants.{Pair, LoneHammer, LoneSound, Falls}
+use Rattle.pair_logs.specs.declared.Turn.TheVariants.{Pair, LoneHammer, LoneSound}
 
 and-false : (t : Bool) {u : Bool} → u ≡ false → t && u ≡ false
 and-false true e = e
@@ -21,9 +21,9 @@ and-false false e = refl
 -- ---- how near
 
 -- a difference that does not wrap
-pub near-after : (h s : ℕ) → h ≤ s → leb (s - h) 40 ≡ near h s
+pub near_after : (h s : ℕ) → h ≤ s → leb (s - h) 40 ≡ near h s
 unfolding near
-near-after h s o = rw (le-leb h (s + 40) (omega arith)) (go (leb s (h + 40)) refl)
+near_after h s o = rw (le-leb h (s + 40) (omega arith)) (go (leb s (h + 40)) refl)
   where
     go : (t : Bool) → leb s (h + 40) ≡ t → leb (s - h) 40 ≡ t
     go true e = le-leb (s - h) 40 (omega (arith, leb-true s (h + 40) e))
@@ -31,7 +31,7 @@ near-after h s o = rw (le-leb h (s + 40) (omega arith)) (go (leb s (h + 40)) ref
 
 pub near_before : (h s : ℕ) → s < h → leb (h - s) 40 ≡ near h s
 unfolding near
-near_before h s o = near-after s h (omega arith) ∙ and_comm (leb s (h + 40)) (leb h (s + 40))
+near_before h s o = near_after s h (omega arith) ∙ and_comm (leb s (h + 40)) (leb h (s + 40))
 
 -- ---- what a turn places
 
@@ -109,9 +109,6 @@ puts-more {at = at} v p e q = record { rest = rw (e, q, add-one at) p.rest; many
 puts-at : {all old new left : List ℕ} {at at' : ℕ} → at' ≡ at → Puts all old new at left → Puts all old new at' left
 puts-at e p = rw e p
 
-pub puts-kept : {all old new left : List ℕ} {at : ℕ} → Puts all old new at left → length new ≡ length old
-puts-kept {all} {old} {new} {left} {at} p = sym (length-sets new at left) ∙ ap length p.rest ∙ length-sets old 0 all
-
 -- ---- the walk
 
 pub going_start : (hammers sounds pairs hs ss : List ℕ) → Going hammers sounds pairs pairs hs hs ss ss 0 0 0 0 0
@@ -135,17 +132,14 @@ module _ {hammers sounds pairs₀ pairs hs₀ hs ss₀ ss : List ℕ} {i a j b p
   pub sounds-fall : never_falls b (drop j sounds) ≡ false → never_falls 0 hammers && never_falls 0 sounds ≡ false
   sounds-fall f = and-false (never_falls 0 hammers) (sym g.sounds_rise ∙ f)
 
-  module _ (h : i < length hammers) (more : j ≡ length sounds → ⊥) where
-    s : j < length sounds
-    s = omega (arith, g.j_inside)
+  module _ (h : i < length hammers) (s : j < length sounds) where
+    pub turn_falls : (get_or hammers i 0 < a) ⊎ (get_or sounds j 0 < b) → never_falls 0 hammers && never_falls 0 sounds ≡ false
+    turn_falls t = ⊎_elim (λ f. hammers-fall (rise-not hammers i a h f)) (λ f. sounds-fall (rise-not sounds j b s f)) t
 
-    pub turn-falls : Turns a (get_or hammers i 0) b (get_or sounds j 0) Falls → never_falls 0 hammers && never_falls 0 sounds ≡ false
-    turn-falls t = ⊎_elim (λ f. hammers-fall (rise-not hammers i a h f)) (λ f. sounds-fall (rise-not sounds j b s f)) t
-
-    pub going-pair : {mid pairs' : List ℕ} → Turns a (get_or hammers i 0) b (get_or sounds j 0) Pair → mid ≡ set pairs (p + p) i → pairs' ≡ set mid (p + p + 1) j
+    pub going_pair : {mid pairs' : List ℕ} → Turns a (get_or hammers i 0) b (get_or sounds j 0) Pair → mid ≡ set pairs (2 * p) i → pairs' ≡ set mid (2 * p + 1) j
         → Going hammers sounds pairs₀ pairs' hs₀ hs ss₀ ss (i + 1) (get_or hammers i 0) (j + 1) (get_or sounds j 0) (p + 1)
     unfolding flat
-    going-pair (no_fall, no_fall', n) m q =
+    going_pair (no_fall, no_fall', n) m q =
         let e = at_pair hammers sounds i j h s n in
         record {
           i_inside = omega arith;
@@ -159,9 +153,9 @@ module _ {hammers sounds pairs₀ pairs hs₀ hs ss₀ ss : List ℕ} {i a j b p
           of_sounds = puts-at (omega (arith, g.j_least)) (rw e at g.of_sounds);
         }
 
-    pub going-hammer : {hs' : List ℕ} → Turns a (get_or hammers i 0) b (get_or sounds j 0) LoneHammer → hs' ≡ set hs (i - p) i
+    pub going_hammer : {hs' : List ℕ} → Turns a (get_or hammers i 0) b (get_or sounds j 0) LoneHammer → hs' ≡ set hs (i - p) i
         → Going hammers sounds pairs₀ pairs hs₀ hs' ss₀ ss (i + 1) (get_or hammers i 0) j b p
-    going-hammer (no_fall, no_fall', n, o) q =
+    going_hammer (no_fall, no_fall', n, o) q =
         let e = at-hammer hammers sounds i j h s n o in
         record {
           i_inside = omega arith;
@@ -175,9 +169,9 @@ module _ {hammers sounds pairs₀ pairs hs₀ hs ss₀ ss : List ℕ} {i a j b p
           of_sounds = rw e at g.of_sounds;
         }
 
-    pub going-sound : {ss' : List ℕ} → Turns a (get_or hammers i 0) b (get_or sounds j 0) LoneSound → ss' ≡ set ss (j - p) j
+    pub going_sound : {ss' : List ℕ} → Turns a (get_or hammers i 0) b (get_or sounds j 0) LoneSound → ss' ≡ set ss (j - p) j
         → Going hammers sounds pairs₀ pairs hs₀ hs ss₀ ss' i a (j + 1) (get_or sounds j 0) p
-    going-sound (no_fall, no_fall', n, o) q =
+    going_sound (no_fall, no_fall', n, o) q =
         let e = at-sound hammers sounds i j h s n o in
         record {
           i_inside = g.i_inside;
@@ -206,15 +200,12 @@ pub record Resting (times : List ℕ) (from before paired : ℕ) (list₀ list :
   pub put : sets list (i - paired) (range i (length times - i)) ≡ sets list₀ (from - paired) (range from (length times - from))
 
 module _ {times : List ℕ} {from before paired : ℕ} {list₀ list : List ℕ} {last i : ℕ} (r : Resting times from before paired list₀ list last i) where
-  pub resting-kept : length list ≡ length list₀
-  resting-kept = sym (length-sets list (i - paired) (range i (length times - i))) ∙ ap length r.put ∙ length-sets list₀ (from - paired) (range from (length times - from))
+  pub resting_falls : i < length times → get_or times i 0 < last → never_falls before (drop from times) ≡ false
+  resting_falls h f = sym r.rise ∙ rise-not times i last h f
 
-  pub resting-falls : i < length times → get_or times i 0 < last → Rests times from before paired list₀ list false
-  resting-falls h f = sym r.rise ∙ rise-not times i last h f
-
-  pub resting-on : {list' : List ℕ} → paired ≤ from → i < length times → last ≤ get_or times i 0 → list' ≡ set list (i - paired) i → Resting times from before paired list₀ list' (get_or times i 0) (i + 1)
+  pub resting_on : {list' : List ℕ} → paired ≤ from → i < length times → last ≤ get_or times i 0 → list' ≡ set list (i - paired) i → Resting times from before paired list₀ list' (get_or times i 0) (i + 1)
   unfolding range
-  resting-on few h o e =
+  resting_on few h o e =
       let one : length times - i ≡ suc (length times - suc i) = omega arith in
       let at : suc i - paired ≡ suc (i - paired) = omega (arith, r.low) in
       record {
@@ -224,25 +215,31 @@ module _ {times : List ℕ} {from before paired : ℕ} {list₀ list : List ℕ}
         put = rw (e, add-one i, at) (rw one at r.put);
       }
 
-  pub resting-end : length times ≤ i → Rests times from before paired list₀ list true
+  pub resting_end : length times ≤ i → Rests times from before paired list₀ list
   unfolding range
-  resting-end h = let none : length times - i ≡ 0 = omega arith in (sym r.rise ∙ rise-end times i last h, rw none at r.put)
+  resting_end h = let none : length times - i ≡ 0 = omega arith in record { rise = sym r.rise ∙ rise-end times i last h; written = rw none at r.put }
 
 rest-written : {all old mid new left : List ℕ} {at n : ℕ} → Puts all old mid at left → new ≡ sets mid at left → n ≡ at + length left → Written all old new n
 rest-written u e q = record { is = e ∙ u.rest; many = omega (arith, u.many) }
 
 module _ {hammers sounds pairs₀ pairs hs₀ hs ss₀ ss : List ℕ} {i a j b p : ℕ} (g : Going hammers sounds pairs₀ pairs hs₀ hs ss₀ ss i a j b p) where
-  pub all_placed : {hs' ss' : List ℕ} → (length hammers ≤ i) ⊎ (length sounds ≤ j) → Rests hammers i a p hs hs' true → Rests sounds j b p ss ss' true
-      → WrittenAll hammers sounds pairs₀ pairs hs₀ hs' ss₀ ss' p (length hammers - p) (length sounds - p)
+  pub all_placed : {hs' ss' : List ℕ} → (length hammers ≤ i) ⊎ (length sounds ≤ j) → Rests hammers i a p hs hs' → Rests sounds j b p ss ss'
+      → WrittenAll hammers sounds pairs₀ pairs hs₀ hs' ss₀ ss' (record { pairs = p; lone_hammers = length hammers - p; lone_sounds = length sounds - p })
   unfolding flat
   all_placed end h s =
       let e = at_rest hammers sounds i j end in
-      let u : Puts (flat (pairing hammers sounds).pairs) pairs₀ pairs (p + p) [] = rw e at g.of_pairs in
+      let u : Puts (flat (pairing hammers sounds).pairs) pairs₀ pairs (2 * p) [] = rw e at g.of_pairs in
       record {
-        hammers_rise = sym g.hammers_rise ∙ h.0;
-        sounds_rise = sym g.sounds_rise ∙ s.0;
+        hammers_rise = sym g.hammers_rise ∙ h.rise;
+        sounds_rise = sym g.sounds_rise ∙ s.rise;
         few = omega (arith, g.i_least, g.i_inside);
         of_pairs = record { is = u.rest; many = omega (arith, u.many) };
-        of_hammers = rest-written (rw e at g.of_hammers) h.1 (omega (arith, g.i_least, g.i_inside, range_length i (length hammers - i)));
-        of_sounds = rest-written (rw e at g.of_sounds) s.1 (omega (arith, g.j_least, g.j_inside, range_length j (length sounds - j)));
+        of_hammers = rest-written (rw e at g.of_hammers) h.written (omega (arith, g.i_least, g.i_inside, range_length i (length hammers - i)));
+        of_sounds = rest-written (rw e at g.of_sounds) s.written (omega (arith, g.j_least, g.j_inside, range_length j (length sounds - j)));
       }
+
+pub ruleset turns = (going_start, turn_falls, going_pair, going_hammer, going_sound)
+
+pub ruleset rests = (resting_falls, resting_on, resting_end)
+
+pub ruleset nears = (near_after, near_before)

@@ -1,13 +1,12 @@
-// A hammer log against a microphone log (document 02, P12): which hammer makes a pair with which sound, and which are alone. The lists are
-// written as far as they have places and counted beyond that, so that one walk serves.
+// A hammer log against a microphone log: which hammer makes a pair with which sound, and which are alone. The lists are written as far as
+// they have places and counted beyond that, so that one walk serves.
 #![tactic(auto)]
 
-ghost use Rattle.std.specs.Prelude.{◌≡◌, ◌≤◌, length, set};
+ghost use Rattle.std.specs.Prelude.{◌≡◌, ◌≤◌, length, set, IsTrue, ◌↔◌, MatchResult};
 ghost use Rattle.pair_logs.specs.PairLogs as definition;
 ghost use Rattle.pair_logs.specs.PairLogs.{pair_logs, output, pair_numbers, hammer_numbers, sound_numbers, answer_of, counts_of};
-ghost use Rattle.pair_logs.specs.Contract.{Turns, Walks, Rests, Places, Agrees};
+ghost use Rattle.pair_logs.specs.Contract.{Turns, Below, Walks, Rests, Falls, FallsFrom, Places, Fit, AgreesAll, Refuses};
 
-use item::zero_numbers;
 use refusal::Refusal;
 
 // In a log.
@@ -17,7 +16,8 @@ const MOST_TIMES: usize = 4096;
 const MOST_APART: u32 = 40;
 
 // How many pairs, lone hammers and lone sounds the lists hold; a pair takes two places.
-#[derive(Clone, Copy)]
+// An enum of its own, as each public job answers: what it tells has names, and the definitions name its cases.
+#[derive(Clone, Copy, Debug, PartialEq, Eq)]
 pub enum PairAnswer {
     Paired {
         pairs: usize,
@@ -27,28 +27,53 @@ pub enum PairAnswer {
     Refused(Refusal),
 }
 
-// What becomes of the first unplaced of each log; or that one of them is below the time before it.
+// The lists that are lent.
+#[derive(Drop)]
+struct Lists<'a> {
+    pairs: &'a mut [u32],
+    lone_hammers: &'a mut [u32],
+    lone_sounds: &'a mut [u32],
+}
+
+#[derive(Clone, Copy)]
+struct Counts {
+    pairs: usize,
+    lone_hammers: usize,
+    lone_sounds: usize,
+}
+
+impl Lists<'_> {
+    // Whether they have places for so many.
+    fn hold(&self, counts: Counts) -> bool
+        ensures { IsTrue result
+            ↔ Fit (length self.now.pairs.now) (length self.now.lone_hammers.now)
+            (length self.now.lone_sounds.now) counts }
+    {
+        counts.pairs <= self.pairs.len() / 2
+            && counts.lone_hammers <= self.lone_hammers.len()
+            && counts.lone_sounds <= self.lone_sounds.len()
+    }
+}
+
+// What becomes of the first unplaced of each log.
 #[derive(Clone, Copy)]
 enum Turn {
     Pair,
     LoneHammer,
     LoneSound,
-    Falls,
 }
 
 // The first unplaced of each log, the time before it, and the pairs so far.
 #[derive(Clone, Copy)]
-enum Walked {
-    To {
-        hammer: usize,
-        before_hammer: u32,
-        sound: usize,
-        before_sound: u32,
-        pairs: usize,
-    },
-    Falls,
+struct Walked {
+    hammer: usize,
+    before_hammer: u32,
+    sound: usize,
+    before_sound: u32,
+    pairs: usize,
 }
 
+#[tactic(auto, using(crate::proofs::Turns::nears))]
 fn near(hammer: u32, sound: u32) -> bool
     ensures { result ≡ definition.near hammer sound }
 {
@@ -59,62 +84,56 @@ fn near(hammer: u32, sound: u32) -> bool
     }
 }
 
-fn turn_of(before_hammer: u32, hammer: u32, before_sound: u32, sound: u32) -> Turn
-    ensures { Turns before_hammer hammer before_sound sound result }
+// Refused where a time is below the one before it.
+fn turn_of(before_hammer: u32, hammer: u32, before_sound: u32, sound: u32) -> Result<Turn, Refusal>
+    ensures { MatchResult result (Turns before_hammer hammer before_sound sound)
+        (Below before_hammer hammer before_sound sound) }
 {
-    if hammer < before_hammer {
-        return Turn::Falls;
-    }
-    if sound < before_sound {
-        return Turn::Falls;
+    if hammer < before_hammer || sound < before_sound {
+        return Err(Refusal::LogFalls);
     }
     if near(hammer, sound) {
-        return Turn::Pair;
+        return Ok(Turn::Pair);
     }
-    if hammer < sound {
+    Ok(if hammer < sound {
         Turn::LoneHammer
     } else {
         Turn::LoneSound
-    }
+    })
 }
 
 // Stores a number if there is a place for it.
+#[tactic(auto, using(std::proofs::lemmas::List::set_past))]
 fn store(list: &mut [u32], i: usize, n: u32)
     ensures { list.new ≡ set list.old i n }
 {
+    // By index, since what is written through `get_mut` is not known afterwards.
     if i < list.len() {
         list[i] = n;
     }
 }
 
-// From the first of each log to the end of one, each turn places one time or two.
-fn walk(
-    hammers: &[u32],
-    sounds: &[u32],
-    pairs: &mut [u32],
-    lone_hammers: &mut [u32],
-    lone_sounds: &mut [u32],
-) -> Walked
-    requires { (length hammers.now ≤ 4096) × (length sounds.now ≤ 4096) }
-    ensures { Walks hammers.now sounds.now pairs.old pairs.new
-        lone_hammers.old lone_hammers.new lone_sounds.old lone_sounds.new result }
+// From the first of each log to the end of one, each turn places one time or two. A `while`, as the two places go on separately.
+#[tactic(auto, using(crate::proofs::Turns::turns))]
+fn walk(hammers: &[u32], sounds: &[u32], lists: &mut Lists<'_>) -> Result<Walked, Refusal>
+    requires hammers { length hammers.now ≤ 4096 }
+    requires sounds { length sounds.now ≤ 4096 }
+    ensures { MatchResult result
+        (Walks hammers.now sounds.now lists.old lists.new)
+        (Falls hammers.now sounds.now) }
 {
     let mut i = 0;
     let mut before_hammer = 0;
     let mut j = 0;
     let mut before_sound = 0;
     let mut paired = 0;
-    while i < hammers.len() {
-        if j == sounds.len() {
-            break;
-        }
+    while i < hammers.len() && j < sounds.len() {
         let hammer = hammers[i];
         let sound = sounds[j];
-        match turn_of(before_hammer, hammer, before_sound, sound) {
-            Turn::Falls => return Walked::Falls,
+        match turn_of(before_hammer, hammer, before_sound, sound)? {
             Turn::Pair => {
-                store(pairs, paired + paired, i as u32);
-                store(pairs, paired + paired + 1, j as u32);
+                store(lists.pairs, 2 * paired, i as u32);
+                store(lists.pairs, 2 * paired + 1, j as u32);
                 paired += 1;
                 before_hammer = hammer;
                 i += 1;
@@ -122,124 +141,104 @@ fn walk(
                 j += 1;
             }
             Turn::LoneHammer => {
-                store(lone_hammers, i - paired, i as u32);
+                store(lists.lone_hammers, i - paired, i as u32);
                 before_hammer = hammer;
                 i += 1;
             }
             Turn::LoneSound => {
-                store(lone_sounds, j - paired, j as u32);
+                store(lists.lone_sounds, j - paired, j as u32);
                 before_sound = sound;
                 j += 1;
             }
         }
     }
-    Walked::To {
+    Ok(Walked {
         hammer: i,
         before_hammer,
         sound: j,
         before_sound,
         pairs: paired,
-    }
+    })
 }
 
-// What is left of a log, all alone, written behind the lone ones so far, which are those before it that are not in pairs: whether no time is
-// below the one before it.
-fn rest(times: &[u32], from: usize, before: u32, paired: usize, list: &mut [u32]) -> bool
+// What is left of a log, all alone, written behind the lone ones so far, which are those before it that are not in pairs. Refused where a
+// time is below the one before it.
+#[tactic(auto, using(crate::proofs::Turns::rests))]
+fn rest(
+    times: &[u32],
+    from: usize,
+    before: u32,
+    paired: usize,
+    list: &mut [u32],
+) -> Result<(), Refusal>
     requires { (paired ≤ from) × (from ≤ length times.now) × (length times.now ≤ 4096) }
-    ensures { Rests times.now from before paired list.old list.new result }
+    ensures { MatchResult result (λ _. Rests times.now from before paired list.old list.new)
+        (FallsFrom times.now from before) }
 {
     let mut last = before;
     for i in from..times.len() {
         let time = times[i];
         if time < last {
-            return false;
+            return Err(Refusal::LogFalls);
         }
         store(list, i - paired, i as u32);
         last = time;
     }
-    true
+    Ok(())
 }
 
 // All times of both logs: the walk, and what is left of the log that it did not come to the end of.
-fn place(
-    hammers: &[u32],
-    sounds: &[u32],
-    pairs: &mut [u32],
-    lone_hammers: &mut [u32],
-    lone_sounds: &mut [u32],
-) -> PairAnswer
-    requires { (length hammers.now ≤ 4096) × (length sounds.now ≤ 4096) }
-    ensures { Places hammers.now sounds.now pairs.old pairs.new
-        lone_hammers.old lone_hammers.new lone_sounds.old lone_sounds.new result }
+#[tactic(auto, using(crate::proofs::Turns::all_placed))]
+fn place(hammers: &[u32], sounds: &[u32], lists: &mut Lists<'_>) -> Result<Counts, Refusal>
+    requires hammers { length hammers.now ≤ 4096 }
+    requires sounds { length sounds.now ≤ 4096 }
+    ensures { MatchResult result
+        (Places hammers.now sounds.now lists.old lists.new)
+        (Falls hammers.now sounds.now) }
 {
-    let Walked::To {
-        hammer,
-        before_hammer,
-        sound,
-        before_sound,
-        pairs: p,
-    } = walk(hammers, sounds, pairs, lone_hammers, lone_sounds)
-    else {
-        return PairAnswer::Refused(Refusal::LogFalls);
-    };
-    if !rest(hammers, hammer, before_hammer, p, lone_hammers) {
-        return PairAnswer::Refused(Refusal::LogFalls);
-    }
-    if !rest(sounds, sound, before_sound, p, lone_sounds) {
-        return PairAnswer::Refused(Refusal::LogFalls);
-    }
-    PairAnswer::Paired {
-        pairs: p,
-        lone_hammers: hammers.len() - p,
-        lone_sounds: sounds.len() - p,
-    }
+    let walked = walk(hammers, sounds, lists)?;
+    let paired = walked.pairs;
+    rest(
+        hammers,
+        walked.hammer,
+        walked.before_hammer,
+        paired,
+        lists.lone_hammers,
+    )?;
+    rest(
+        sounds,
+        walked.sound,
+        walked.before_sound,
+        paired,
+        lists.lone_sounds,
+    )?;
+    Ok(Counts {
+        pairs: paired,
+        lone_hammers: hammers.len() - paired,
+        lone_sounds: sounds.len() - paired,
+    })
 }
 
 // A refusal may leave lists partly written.
-fn pair(
-    hammers: &[u32],
-    sounds: &[u32],
-    pairs: &mut [u32],
-    lone_hammers: &mut [u32],
-    lone_sounds: &mut [u32],
-) -> PairAnswer
-    ensures { Agrees (pair_logs hammers.now sounds.now pairs.old lone_hammers.old
-        lone_sounds.old) pairs.old pairs.new lone_hammers.old lone_hammers.new
-        lone_sounds.old lone_sounds.new result }
+#[tactic(auto, using(crate::proofs::Answers::cases))]
+fn pair(hammers: &[u32], sounds: &[u32], lists: &mut Lists<'_>) -> Result<Counts, Refusal>
+    ensures { let answer = pair_logs hammers.now sounds.now lists.old.pairs.now
+        lists.old.lone_hammers.now lists.old.lone_sounds.now in
+        MatchResult result (AgreesAll answer lists.old lists.new) (Refuses answer) }
 {
-    if hammers.len() > MOST_TIMES {
-        return PairAnswer::Refused(Refusal::LogTooLong);
+    if hammers.len() > MOST_TIMES || sounds.len() > MOST_TIMES {
+        return Err(Refusal::LogTooLong);
     }
-    if sounds.len() > MOST_TIMES {
-        return PairAnswer::Refused(Refusal::LogTooLong);
+    let counts = place(hammers, sounds, lists)?;
+    if !lists.hold(counts) {
+        return Err(Refusal::ListTooShort);
     }
-    match place(hammers, sounds, pairs, lone_hammers, lone_sounds) {
-        PairAnswer::Refused(e) => PairAnswer::Refused(e),
-        PairAnswer::Paired {
-            pairs: p,
-            lone_hammers: h,
-            lone_sounds: s,
-        } => {
-            if p + p > pairs.len() {
-                return PairAnswer::Refused(Refusal::ListTooShort);
-            }
-            if h > lone_hammers.len() {
-                return PairAnswer::Refused(Refusal::ListTooShort);
-            }
-            if s > lone_sounds.len() {
-                return PairAnswer::Refused(Refusal::ListTooShort);
-            }
-            PairAnswer::Paired {
-                pairs: p,
-                lone_hammers: h,
-                lone_sounds: s,
-            }
-        }
-    }
+    Ok(counts)
 }
 
 // The positions of pairs, a hammer's and its sound's in turn, from the front of `pairs`; those of lone hammers and lone sounds from the
 // front of their lists. A refusal leaves zeros in all three.
+#[tactic(auto, using(crate::proofs::Answers::told))]
 pub fn pair_logs(
     hammers: &[u32],
     sounds: &[u32],
@@ -256,20 +255,21 @@ pub fn pair_logs(
     ensures sounds { lone_sounds.new ≡ output sound_numbers (pair_logs hammers.now sounds.now
         pairs.old lone_hammers.old lone_sounds.old) lone_sounds.old }
 {
-    match pair(hammers, sounds, pairs, lone_hammers, lone_sounds) {
-        PairAnswer::Paired {
-            pairs: p,
-            lone_hammers: h,
-            lone_sounds: s,
-        } => PairAnswer::Paired {
-            pairs: p,
-            lone_hammers: h,
-            lone_sounds: s,
+    let mut lists = Lists {
+        pairs,
+        lone_hammers,
+        lone_sounds,
+    };
+    match pair(hammers, sounds, &mut lists) {
+        Ok(counts) => PairAnswer::Paired {
+            pairs: counts.pairs,
+            lone_hammers: counts.lone_hammers,
+            lone_sounds: counts.lone_sounds,
         },
-        PairAnswer::Refused(e) => {
-            zero_numbers(pairs);
-            zero_numbers(lone_hammers);
-            zero_numbers(lone_sounds);
+        Err(e) => {
+            pairs.fill(0);
+            lone_hammers.fill(0);
+            lone_sounds.fill(0);
             PairAnswer::Refused(e)
         }
     }

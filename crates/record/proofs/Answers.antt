@@ -5,47 +5,30 @@ use native.Mathlib.Omega.{arith}
 use mathlib.Core.List.{List, map}
 use mathlib.Core.Option.{Option, none, some}
 use lib.ListN.{length, take, get_or}
-use Rattle.refusal.specs.Base.{Answer, good, refused, ◌>>=◌, maybe, given, limit}
+use Rattle.refusal.specs.Base.{Answer, good, refused, ◌>>=◌, maybe, given}
 use Rattle.meaning.specs.Meaning.{Meaning}
 use Rattle.meaning.specs.Record.{joined, step_item, fields}
-use Rattle.record.specs.Read.{content, fields_in, meaning_in}
+use Rattle.record.specs.Read.{meaning_in}
 use Rattle.record.specs.Jobs as job
 use Rattle.record.specs.Jobs.{Found, nothing, part, opened, check_record, part_at, steps_start, answer_of}
-use Rattle.record.specs.Contract.{span_of, ItemAt, meaning_steps}
+use Rattle.record.specs.Contract.{span_of, record_steps}
 use Rattle.entries.specs.Entries.{nth_item}
-use Rattle.record.proofs.Chains.{in_part, whole₁, whole₂, whole₃, whole₄}
 use Rattle.value.proofs.Contents.{bytes_of}
 use Rattle.record.specs.declared.RecordAnswer.{RecordAnswer}
 use Rattle.record.specs.declared.RecordAnswer.TheVariants.{Good}
 use Rattle.record.proofs.Lookups.{Opened, opening, field_is, step_is, numbered-in, numbered-out, field_found, step-found, length-steps}
 use Rattle.entries.specs.declared.Span.{Span}
-use Rattle.entries.specs.declared.Span.TheVariants.{At}
+use Rattle.std.specs.Prelude.{Option as StdOption, Some}
 
 -- ---- the check
 
-module _ (b : List ℕ) where
-  closed : meaning_in b ≡ none → refused 40 0 0 ≡ check_record b
-  unfolding check_record opened given ◌>>=◌
-  closed e = rw e
-
-  pub check₁ : limit < length b → refused 40 0 0 ≡ check_record b
-  check₁ h = closed (whole₁ b h)
-
-  module _ (h : length b ≤ limit) where
-    pub check₂ : content 16 b ≡ none → refused 40 0 0 ≡ check_record b
-    check₂ e = closed (whole₂ b h e)
-
-    module _ {e : ℕ} (w : ItemAt 16 b 0 e) where
-      pub check₃ : (e ≡ length b → ⊥) → refused 40 0 0 ≡ check_record b
-      check₃ n = closed (whole₃ b h w n)
-
-      pub check₄ : e ≡ length b → (o : Option ℕ) → o ≡ meaning_steps (in_part b 0 e) → given o 40 0 0 ≡ check_record b
-      unfolding check_record opened meaning_steps given maybe ◌>>=◌
-      check₄ n o p = ap (λ (o : Option ℕ). given o 40 0 0) p ∙ sym (rw (whole₄ b h w n) (go (fields_in (in_part b 0 e))))
-        where
-          go : (o : Option Meaning) → (given o 40 0 0 >>= λ m. good (length m.steps)) ≡ given (maybe o none (λ m. some (length m.steps))) 40 0 0
-          go none = refl
-          go (some m) = refl
+pub checked : (b : List ℕ) → given (record_steps b) 40 0 0 ≡ check_record b
+unfolding check_record opened record_steps given maybe ◌>>=◌
+checked b = go (meaning_in b)
+  where
+    go : (o : Option Meaning) → given (maybe o none (λ m. some (length m.steps))) 40 0 0 ≡ (given o 40 0 0 >>= λ m. good (length m.steps))
+    go none = refl
+    go (some m) = refl
 
 -- ---- the lookups
 
@@ -72,17 +55,17 @@ module _ {b : List ℕ} {n : ℕ} (w : Opened b n) where
   last-is : span_of (nth_item b 6 7) ≡ good (part_at 6 (fields w.meaning) 7)
   last-is = field_found b w.meaning w.record_is 7 (omega arith)
 
-  pub last_found : (r : Span) → r ≡ nth_item b 6 7 → {x : Answer Found} → span_of r ≡ x
+  pub last_found : (r : StdOption Span) → r ≡ nth_item b 6 7 → {x : Answer Found} → span_of r ≡ x
       → x ≡ good (part (6 + length (joined (take 7 (fields w.meaning)))) (6 + length (joined (take 8 (fields w.meaning)))))
   unfolding part_at
   last_found r e p = sym p ∙ ap span_of e ∙ last-is
 
-  pub step_in : (start end number i : ℕ) → At start end ≡ nth_item b 6 7 → number ≡ suc i → i < n → span_of (nth_item b (start + 6) i) ≡ job.step b number
+  pub step_in : (span : Span) (number i : ℕ) → Some span ≡ nth_item b 6 7 → number ≡ suc i → i < n → span_of (nth_item b (span.start + 6) i) ≡ job.step b number
   unfolding part_at steps_start
-  step_in start end number i f e h =
-      let p : good (part start end) ≡ good (part_at 6 (fields w.meaning) 7) = ap span_of f ∙ last-is in
-      let s : start ≡ 6 + length (joined (take 7 (fields w.meaning))) = cc in
-      let at : start + 6 ≡ steps_start w.meaning = omega arith in
+  step_in span number i f e h =
+      let p : good (part span.start span.end) ≡ good (part_at 6 (fields w.meaning) 7) = ap span_of f ∙ last-is in
+      let s : span.start ≡ 6 + length (joined (take 7 (fields w.meaning))) = cc in
+      let at : span.start + 6 ≡ steps_start w.meaning = omega arith in
       let c : i < length w.meaning.steps = omega (arith, w.count) in
       let d : i < length (map step_item w.meaning.steps) = omega (arith, length-steps w.meaning.steps) in
       ap (λ (k : ℕ). span_of (nth_item b k i)) at

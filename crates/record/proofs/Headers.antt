@@ -1,58 +1,71 @@
 -- What a header says of a field or an item, and parts by their places. Assumes nothing.
 use Rattle.std.specs.Prelude.{if◌then◌else◌}
-use mathlib.Core.Path.{◌≡◌, refl}
-use Prim.Native.Nat.{ℕ, ◌-◌, ◌≤◌, ◌<◌}
+use mathlib.Core.Path.{◌≡◌, refl, sym, ap, ◌∙◌}
+use Prim.Native.Nat.{ℕ, ◌+◌, ◌-◌, ◌≤◌, ◌<◌}
 use native.Mathlib.Omega.{arith}
 use mathlib.Core.List.{List, []}
-use mathlib.Core.Bool.{Bool, true, false, ◌&&◌, ◌||◌}
+use mathlib.Core.Bool.{Bool, true, false, ◌&&◌}
 use mathlib.Core.Option.{none}
 use lib.Dec.{eqb, leb}
 use lib.ListN.{length, take, drop}
-use borrow.Author.Tests.{eq-eqb, ne_eqb, le-leb, lt-leb}
+use borrow.Author.Tests.{eq-eqb, ne_eqb, eqb-true, eqb-false, le-leb, lt-leb}
 use Rattle.item.specs.Decode.{◌>>=◌, header}
 use Rattle.item.specs.Places.{header_at}
-use Rattle.item.specs.declared.Header.TheVariants.{Item}
-use Rattle.item.proofs.Headers.{spans, header-item}
+use Rattle.std.specs.Prelude.{Result, Ok, Err, Option as StdOption, None, Some, slice_range, ◌⊎◌, unwrap_or}
+use Rattle.std.proofs.Common.{Bor, MatchOption, inl, inr}
+use Rattle.std.specs.Result.{result_ok}
+use Rattle.std.specs.Bool.{then_some}
+use Rattle.item.specs.declared.Item.{Item}
+use Rattle.item.specs.declared.Broken.{Broken}
+use Rattle.item.proofs.Headers.{spans, header-item, no_header}
 use Rattle.record.specs.Read.{content}
 use Rattle.record.specs.Jobs.{part_of}
-use Rattle.record.specs.Contract.{ItemAt}
-
--- ---- one of two kinds
-
-module _ (k a b : ℕ) where
-  pub either-one : k ≡ a → eqb k a || eqb k b ≡ true
-  either-one e = rw (eq-eqb k a e)
-
-  pub either-other : k ≡ b → eqb k a || eqb k b ≡ true
-  either-other e = rw (eq-eqb k b e) (or-last (eqb k a))
-    where
-      or-last : (t : Bool) → t || true ≡ true
-      or-last true = refl
-      or-last false = refl
-
-  pub neither : (k ≡ a → ⊥) → (k ≡ b → ⊥) → eqb k a || eqb k b ≡ false
-  neither m n = rw (ne_eqb k a m, ne_eqb k b n)
+use Rattle.record.specs.Contract.{ItemAt, ItemEnds}
 
 -- ---- the item at a place
 
-pub no-content-at : (k : ℕ) (bs : List ℕ) → header bs ≡ none → content k bs ≡ none
-unfolding content ◌>>=◌
-no-content-at k bs e = rw e
+pub is-ok : {r : Result Item Broken} {item : Item} → Some item ≡ result_ok r → r ≡ Ok item
+is-ok {r} {item} e = go r e
+  where
+    go : (r : Result Item Broken) → Some item ≡ result_ok r → r ≡ Ok item
+    go (Ok other) e = let same : other ≡ item = cc in ap Ok same
+    go (Err broken) e = let z : ◌≡◌ {A = ℕ} 0 1 = cc in absurd (omega arith)
 
-module _ (k : ℕ) (s : List ℕ) (at : ℕ) {kind from to : ℕ} (h : Item kind from to ≡ header_at s at) where
-  pub content-here : kind ≡ k → ItemAt k s at to
+pub is-err : {r : Result Item Broken} → None ≡ result_ok r → (broken : Broken) × (r ≡ Err broken)
+is-err {r} e = go r e
+  where
+    go : (r : Result Item Broken) → None ≡ result_ok r → (broken : Broken) × (r ≡ Err broken)
+    go (Ok item) e = let z : ◌≡◌ {A = ℕ} 0 1 = cc in absurd (omega arith)
+    go (Err broken) e = (broken, refl)
+
+pub there : (s : List ℕ) (at : ℕ) {item : Item} → Some item ≡ result_ok (header_at s at) → Ok item ≡ header_at s at
+there s at e = sym (is-ok e)
+
+pub nowhere : (s : List ℕ) (at : ℕ) → None ≡ result_ok (header_at s at) → header (drop at s) ≡ none
+nowhere s at e = no_header s at (sym (is-err e).1)
+
+pub no-content-at : (k : ℕ) (s : List ℕ) (at : ℕ) → header (drop at s) ≡ none → content k (drop at s) ≡ none
+unfolding content ◌>>=◌
+no-content-at k s at h = rw h
+
+module _ (k : ℕ) (s : List ℕ) (at : ℕ) {item : Item} (h : Ok item ≡ header_at s at) where
+  pub content-here : item.kind ≡ k → ItemAt k s at item.to
   unfolding content ◌>>=◌
   content-here e =
       let i = spans s at h in
       record {
-        is = rw (header-item s at h, eq-eqb kind k e, i.start);
+        is = rw (header-item s at h, eq-eqb item.kind k e, i.start);
         forward = omega (arith, i.start, i.order);
         fits = i.fits;
       }
 
-  pub content-other : (kind ≡ k → ⊥) → content k (drop at s) ≡ none
+  pub content-other : (item.kind ≡ k → ⊥) → content k (drop at s) ≡ none
   unfolding content ◌>>=◌
-  content-other n = rw (header-item s at h, ne_eqb kind k n)
+  content-other n = rw (header-item s at h, ne_eqb item.kind k n)
+
+  pub item_ends : (b : Bool) → b ≡ eqb item.kind k → ItemEnds k s at (then_some b item.to)
+  item_ends true e = content-here (eqb-true item.kind k (sym e))
+  item_ends false e = content-other (eqb-false item.kind k (sym e))
 
 -- ---- a part
 
@@ -72,3 +85,11 @@ module _ (b : List ℕ) (start end : ℕ) where
   pub part-inside : start ≤ end → end ≤ length b → part_of b start end ≡ take (end - start) (drop start b)
   unfolding part_of
   part-inside h k = rw (le-leb start end h, le-leb end (length b) k)
+
+  -- what `get` gives, or the empty part
+  pub part-got : (o : StdOption (Bor (List ℕ))) (other : Bor (List ℕ)) → other.now ≡ []
+      → MatchOption o ((end < start) ⊎ (length b < end)) (λ x. (start ≤ end) × (end ≤ length b) × (x.now ≡ slice_range b start end) × (length x.now + start ≡ end))
+      → (unwrap_or o other).now ≡ part_of b start end
+  part-got None other e (inl h) = e ∙ sym (part_turned h)
+  part-got None other e (inr h) = e ∙ sym (part-past h)
+  part-got (Some x) other e m = m.2 ∙ sym (part-inside m.0 m.1)

@@ -10,6 +10,8 @@ use lib.ListN.{length, drop, drop_of_length-le, length-drop}
 use borrow.Author.Tests.{eqb-true, eqb-false}
 use Rattle.refusal.specs.Base.{maybe}
 use Rattle.item.specs.Decode.{◌>>=◌, Decoder, nothing}
+use Rattle.std.specs.Bool.{then_some}
+use Rattle.std.specs.Option.{is_some as is_there}
 use Rattle.record.specs.Read.{many, all}
 use Rattle.record.specs.Contract.{is_some, counted}
 
@@ -81,10 +83,10 @@ module _ {A : Type 0} (a : A) (s : List ℕ) (at : ℕ) where
       go [] e = absurd (n (omega (arith, length-drop at s, ap length e)))
       go (b ∷ r) e = unfold nothing in refl
 
-  pub ended : at ≤ length s → is_some (nothing a (drop at s)) ≡ eqb at (length s)
+  pub ended : at ≤ length s → is_there (then_some (eqb at (length s)) (tt {0})) ≡ is_some (nothing a (drop at s))
   unfolding is_some maybe
   ended h = go (eqb at (length s)) refl
     where
-      go : (t : Bool) → eqb at (length s) ≡ t → is_some (nothing a (drop at s)) ≡ t
+      go : (t : Bool) → eqb at (length s) ≡ t → is_there (then_some t (tt {0})) ≡ is_some (nothing a (drop at s))
       go true e = rw (ends (eqb-true at (length s) e))
       go false e = rw (left_over h (eqb-false at (length s) e))

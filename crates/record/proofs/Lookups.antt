@@ -13,7 +13,7 @@ use Rattle.item.specs.Encode.{head, item, encode, kind_of, Bytes}
 use Rattle.item.proofs.Size.{head-length, item-length}
 use Rattle.item.specs.Places.{header_at}
 use Rattle.item.proofs.HeaderPlaces.{item-at}
-use Rattle.item.specs.declared.Header.TheVariants.{Item}
+use Rattle.std.specs.Prelude.{Ok}
 use Rattle.meaning.specs.Meaning.{Step, Meaning}
 use Rattle.meaning.specs.Record.{joined, text_item, step_item, defaults_item, tags_item, steps_item, fields, record_of}
 use Rattle.meaning.specs.Rules.{Each, IsRecord}
@@ -80,7 +80,7 @@ module _ (s r : List ℕ) where
       size : length s - at ≡ length p + length (joined ps ++ r)
       size = sym (length-drop at s) ∙ ap length (e ∙ append_assoc p (joined ps) r) ∙ length-append p (joined ps ++ r)
 
-      head-is : header_at s at ≡ Item o.kind (at + 6) (at + 6 + length o.content)
+      head-is : header_at s at ≡ Ok (record { kind = o.kind; from = at + 6; to = at + 6 + length o.content })
       head-is = item-at s at o.kind o.content (joined ps ++ r) o.small (omega (arith, long, size)) h (e ∙ append_assoc p (joined ps) r ∙ ap (λ (q : List ℕ). q ++ (joined ps ++ r)) o.is)
 
       next : drop (at + 6 + length o.content) s ≡ joined ps ++ r

@@ -8,11 +8,12 @@ use Rattle.refusal.specs.Base.{good, limit}
 use Rattle.item.specs.Tree.{bool, str, Ranged}
 use Rattle.item.specs.Encode.{item, encode}
 use Rattle.item.specs.Places.{header_at}
-use Rattle.item.specs.declared.Header.{Header}
-use Rattle.item.specs.declared.Header.TheVariants.{Item, Cut, PastEnd}
+use Rattle.std.specs.Prelude.{Result, None, Some, Ok, Err}
+use Rattle.item.specs.declared.Item.{Item}
+use Rattle.item.specs.declared.Broken.{Broken}
 use Rattle.item.proofs.Size.{item-length}
 use Rattle.entries.specs.Entries.{Stands, span_at, behind, nth_item}
-use Rattle.entries.specs.declared.Span.TheVariants.{At, Nowhere}
+use Rattle.entries.specs.declared.Span.{Span}
 use Rattle.entries.proofs.Standing.{stands-left, stands-right, stands_at, item-head, item-content}
 use Rattle.entries.proofs.Counting.{spanned}
 use Rattle.meaning.specs.Meaning.{Step, Meaning}
@@ -30,15 +31,14 @@ pub record Inside (s : List ℕ) (start end : ℕ) : Type 0 where
   pub order : start + 6 ≤ end
   pub fits : end ≤ length s
 
-pub nth_inside : (s : List ℕ) (skip at : ℕ) {start end : ℕ} → At start end ≡ nth_item s at skip → Inside s start end
+pub nth_inside : (s : List ℕ) (skip at : ℕ) {span : Span} → Some span ≡ nth_item s at skip → Inside s span.start span.end
 unfolding nth_item span_at behind
 nth_inside s zero at e = let i = spanned s at e in record { order = omega (arith, i.first, i.order); fits = i.inside }
-nth_inside s (suc skip) at {start} {end} e = go (header_at s at) (λ to. nth_inside s skip to {start = start} {end = end}) e
+nth_inside s (suc skip) at {span} e = go (header_at s at) (λ to. nth_inside s skip to {span = span}) e
   where
-    go : (r : Header) → ((to : ℕ) → At start end ≡ nth_item s to skip → Inside s start end) → At start end ≡ behind r (λ to. nth_item s to skip) → Inside s start end
-    go (Item kind from to) more e = more to e
-    go Cut more e = let z : ◌≡◌ {A = ℕ} 0 1 = cc in absurd (omega arith)
-    go PastEnd more e = let z : ◌≡◌ {A = ℕ} 0 1 = cc in absurd (omega arith)
+    go : (r : Result Item Broken) → ((to : ℕ) → Some span ≡ nth_item s to skip → Inside s span.start span.end) → Some span ≡ behind r (λ to. nth_item s to skip) → Inside s span.start span.end
+    go (Ok item) more e = more item.to e
+    go (Err broken) more e = let z : ◌≡◌ {A = ℕ} 0 1 = cc in absurd (omega arith)
 
 -- ---- parts one behind another
 
@@ -86,12 +86,12 @@ module _ {s : List ℕ} {at : ℕ} (x : Step) (st : Stands s at (step_item x)) w
     found_part : span_of (nth_item s (at + 6) i) ≡ good (part_at (at + 6) (step_parts x) i)
     found_part = nth-part s parts.rest (step_parts x) (step-items x) w i (at + 6) (omega (arith, parts.within)) parts.here (omega (arith, seven))
 
-    pub step_part : {start end : ℕ} → At start end ≡ nth_item s (at + 6) i → StepPart s at x i start end
+    pub step_part : {span : Span} → Some span ≡ nth_item s (at + 6) i → StepPart s at x i span.start span.end
     unfolding part_at
-    step_part {start} {end} e =
-        let q : good (part start end) ≡ good (part_at (at + 6) (step_parts x) i) = ap span_of e ∙ found_part in
-        let a : start ≡ at + 6 + length (joined (take i (step_parts x))) = cc q in
-        let b : end ≡ at + 6 + length (joined (take (suc i) (step_parts x))) = cc q in
+    step_part {span} e =
+        let q : good (part span.start span.end) ≡ good (part_at (at + 6) (step_parts x) i) = ap span_of e ∙ found_part in
+        let a : span.start ≡ at + 6 + length (joined (take i (step_parts x))) = cc q in
+        let b : span.end ≡ at + 6 + length (joined (take (suc i) (step_parts x))) = cc q in
         record {
           begins = a;
           stands = stands_at (sym a) (parts-stand (step_parts x) i (at + 6) (omega (arith, seven)) parts);
@@ -99,7 +99,7 @@ module _ {s : List ℕ} {at : ℕ} (x : Step) (st : Stands s at (step_item x)) w
           next = b;
         }
 
-    pub no_part : {X : Type 0} → Nowhere ≡ nth_item s (at + 6) i → X
+    pub no_part : {X : Type 0} → None ≡ nth_item s (at + 6) i → X
     unfolding part_at
     no_part e = never-nothing (ap span_of e ∙ found_part)
 
@@ -125,19 +125,19 @@ pub record FirstStep (s : List ℕ) (at to : ℕ) (xs : List Step) (next : ℕ) 
   pub behind : StepsLie s next to others
 
 module _ {s : List ℕ} {at to : ℕ} (w : length s ≤ 2 ^ 20) (m : at < to) where
-  step-span : (x : Step) → Stands s at (step_item x) → span_at at (header_at s at) ≡ At at (at + length (step_item x))
-  unfolding step_item span_at
-  step-span x st =
+  step-head : (x : Step) → Stands s at (step_item x) → header_at s at ≡ Ok (record { kind = 19; from = at + 6; to = at + length (step_item x) })
+  unfolding step_item
+  step-head x st =
       let c = joined (step_parts x) in
       let n : at + 6 + length c ≡ at + length (item 19 c) = omega (arith, item-length 19 c) in
-      ap (span_at at) (item-head 19 c (omega arith) w st) ∙ ap (At at) n
+      item-head 19 c (omega arith) w st ∙ ap (λ (k : ℕ). Ok (record { kind = 19; from = at + 6; to = k })) n
 
-  pub first_step : (xs : List Step) → StepsLie s at to xs → {start next : ℕ} → At start next ≡ span_at at (header_at s at) → FirstStep s at to xs next
+  pub first_step : (xs : List Step) → StepsLie s at to xs → {item : Item} → Ok item ≡ header_at s at → FirstStep s at to xs item.to
   unfolding joined
   first_step [] h e = absurd (omega (arith, h.ends))
-  first_step (x ∷ xs) h {start} {next} e =
+  first_step (x ∷ xs) h {item = found} e =
       let st : Stands s at (step_item x) = stands-left (step_item x) (joined (map step_item xs)) h.stands in
-      let n : at + length (step_item x) ≡ next = cc (e, step-span x st) in
+      let n : at + length (step_item x) ≡ found.to = cc (e, step-head x st) in
       record {
         step = x;
         others = xs;
@@ -152,10 +152,10 @@ module _ {s : List ℕ} {at to : ℕ} (w : length s ≤ 2 ^ 20) (m : at < to) wh
         };
       }
 
-  pub no_step : (xs : List Step) → StepsLie s at to xs → {X : Type 0} → Nowhere ≡ span_at at (header_at s at) → X
+  pub no_step : (xs : List Step) → StepsLie s at to xs → {broken : Broken} {X : Type 0} → Err broken ≡ header_at s at → X
   unfolding joined
   no_step [] h e = absurd (omega (arith, h.ends))
-  no_step (x ∷ xs) h e = absurd (let z : ◌≡◌ {A = ℕ} 0 1 = cc (e, step-span x (stands-left (step_item x) (joined (map step_item xs)) h.stands)) in omega arith)
+  no_step (x ∷ xs) h e = absurd (let z : ◌≡◌ {A = ℕ} 0 1 = cc (e, step-head x (stands-left (step_item x) (joined (map step_item xs)) h.stands)) in omega arith)
 
 -- ---- all steps of a record
 
@@ -182,14 +182,14 @@ module _ {b : List ℕ} {n : ℕ} (o : Opened b n) where
     pub begins : start + 6 ≡ steps_start o.meaning
     pub lie : StepsLie b (start + 6) end o.meaning.steps
 
-  pub steps-lie : {start end : ℕ} → At start end ≡ nth_item b 6 7 → Last start end
+  pub steps-lie : {span : Span} → Some span ≡ nth_item b 6 7 → Last span.start span.end
   unfolding steps_start steps_item fields
-  steps-lie {start} {end} e =
+  steps-lie {span} e =
       let m = o.meaning in
-      let q = last_found o (At start end) e refl in
-      let a : start ≡ 6 + length (joined (take 7 (fields m))) = cc q in
-      let z : end ≡ 6 + length (joined (take 8 (fields m))) = cc q in
-      let k : start + 6 ≡ steps_start m = omega (arith, a) in
+      let q = last_found o (Some span) e refl in
+      let a : span.start ≡ 6 + length (joined (take 7 (fields m))) = cc q in
+      let z : span.end ≡ 6 + length (joined (take 8 (fields m))) = cc q in
+      let k : span.start + 6 ≡ steps_start m = omega (arith, a) in
       record {
         begins = k;
         lie = record {
@@ -199,5 +199,5 @@ module _ {b : List ℕ} {n : ℕ} (o : Opened b n) where
         };
       }
 
-  pub steps-there : {X : Type 0} → Nowhere ≡ nth_item b 6 7 → X
-  steps-there e = never-nothing (last_found o Nowhere e refl)
+  pub steps-there : {X : Type 0} → None ≡ nth_item b 6 7 → X
+  steps-there e = never-nothing (last_found o None e refl)

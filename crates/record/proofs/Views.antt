@@ -3,8 +3,8 @@ use Rattle.std.specs.Prelude.{if◌then◌else◌}
 use mathlib.Core.Path.{◌≡◌, refl, sym, ap, ◌∙◌}
 use Prim.Native.Nat.{ℕ, ◌+◌, ◌-◌}
 use native.Mathlib.Omega.{arith}
-use mathlib.Core.List.{List, ◌++◌, append_assoc}
-use mathlib.Core.Bool.{Bool, true, false, ◌||◌}
+use mathlib.Core.List.{List, [], ◌∷◌, ◌++◌, append_assoc}
+use mathlib.Core.Bool.{Bool, true, false, ◌&&◌}
 use mathlib.Core.Option.{Option, none, some, some-injective, none-ne-some}
 use lib.Dec.{eqb}
 use lib.ListN.{length, take, drop, length-drop, length-append}
@@ -15,19 +15,29 @@ use Rattle.refusal.proofs.Tools.{chosen}
 use Rattle.item.specs.Tree.{Yaml, null, bool, int, str, seq, dict}
 use Rattle.item.specs.Encode.{item, head, encode, kind_of, Bytes}
 use Rattle.item.proofs.Size.{head-length}
-use Rattle.item.specs.Decode.{◌>>=◌, Decoder, header, unflag, unint, decode_items, decode_entries, content_of, node}
-use Rattle.item.proofs.Exact.{got, none≢, nothing-inv, bytes_drop}
+use Rattle.item.specs.Decode.{◌>>=◌, Decoder, header, unflag, unint, decode_items, decode_entries, content_of, node, decode}
+use Rattle.std.specs.Prelude.{Option as StdOption, None, Some, Ok}
+use Rattle.std.specs.List.{list_any}
+use Rattle.std.specs.Bool.{then_some}
+use Rattle.item.specs.Places.{header_at}
+use Rattle.item.specs.declared.Item.{Item}
+use Rattle.item.specs.Kinds.{number_of}
+use Rattle.item.specs.declared.Kind.{Kind}
+use Rattle.item.specs.declared.Kind.TheVariants.{Null, Str, Seq, Map}
+use Rattle.item.specs.declared.Kind.TheVariants as kinds
+use Rattle.item.proofs.Headers.{spans, header-item}
+use Rattle.item.proofs.Exact.{got, none≢, and_left, and_right, nothing-inv, bytes_drop}
+use Rattle.utf8.specs.Utf8.{is_utf8}
+use Rattle.meaning.specs.Sound.{sound}
 use Rattle.value.specs.Tree.{tree, inside}
 use Rattle.value.proofs.Contents.{decode-node}
 use Rattle.value.proofs.Invariants.{taken}
 use Rattle.value.specs.Walks.{ReadAt, Walks}
-use Rattle.value.specs.declared.End.{End}
-use Rattle.value.specs.declared.End.TheVariants.{At, Nowhere}
 use Rattle.meaning.specs.Meaning.{step_fields, built_in_steps}
 use Rattle.meaning.specs.Record.{text_item}
 use Rattle.record.specs.Read.{field_of, as_text, as_optional, as_flag, as_items, as_command, as_expect}
 use Rattle.record.proofs.Exact.{text-reads}
-use Rattle.record.specs.Contract.{of_kind, expect_kind, is_some}
+use Rattle.record.specs.Contract.{of_kinds, is_some}
 
 -- ---- the kind of a tree
 
@@ -64,26 +74,29 @@ module _ {A : Type 0} (view : Yaml → Option A) (l : ℕ) (bs : List ℕ) where
   unfolding field_of ◌>>=◌
   field_of_lem x e = rw e
 
-module _ (a b l : ℕ) (s : List ℕ) (at k : ℕ) (c r : List ℕ) (e : header (drop at s) ≡ some (k, c, r)) where
-  pub of_kind_lem : eqb k a || eqb k b ≡ true → (w : End) → Walks (tree l) s at w → Walks (field_of (of_kind a b) l) s at w
-  unfolding of_kind ◌>>=◌
-  of_kind_lem h (At to) w = record {
+abbrev pub takes : List Kind → ℕ → Bool
+takes kinds k = list_any (λ kind. eqb k (number_of kind)) kinds
+
+module _ (kinds : List Kind) (l : ℕ) (s : List ℕ) (at k : ℕ) (c r : List ℕ) (e : header (drop at s) ≡ some (k, c, r)) where
+  pub kind_taken : takes kinds k ≡ true → (w : StdOption ℕ) → Walks (tree l) s at w → Walks (field_of (of_kinds kinds) l) s at w
+  unfolding of_kinds ◌>>=◌
+  kind_taken h (Some to) w = record {
     value = w.value;
-    is = field_of_lem (of_kind a b) l (drop at s) (w.value, drop to s) w.is ∙ rw (tree-kind l (drop at s) k c r _ e w.is, h);
+    is = field_of_lem (of_kinds kinds) l (drop at s) (w.value, drop to s) w.is ∙ rw (tree-kind l (drop at s) k c r _ e w.is, h);
     forward = w.forward;
     fits = w.fits;
   }
-  of_kind_lem h Nowhere w = no_field (of_kind a b) l (drop at s) w
+  kind_taken h None w = no_field (of_kinds kinds) l (drop at s) w
 
-  pub other-kind : eqb k a || eqb k b ≡ false → field_of (of_kind a b) l (drop at s) ≡ none
-  unfolding of_kind ◌>>=◌
-  other-kind h = go (tree l (drop at s)) refl
+  pub other_kind : takes kinds k ≡ false → field_of (of_kinds kinds) l (drop at s) ≡ none
+  unfolding of_kinds ◌>>=◌
+  other_kind h = go (tree l (drop at s)) refl
     where
-      go : (o : Option (Yaml × List ℕ)) → tree l (drop at s) ≡ o → field_of (of_kind a b) l (drop at s) ≡ none
-      go none p = no_field (of_kind a b) l (drop at s) p
-      go (some x) p = field_of_lem (of_kind a b) l (drop at s) x p ∙ rw (tree-kind l (drop at s) k c r x e p, h)
+      go : (o : Option (Yaml × List ℕ)) → tree l (drop at s) ≡ o → field_of (of_kinds kinds) l (drop at s) ≡ none
+      go none p = no_field (of_kinds kinds) l (drop at s) p
+      go (some x) p = field_of_lem (of_kinds kinds) l (drop at s) x p ∙ rw (tree-kind l (drop at s) k c r x e p, h)
 
--- ---- a field that holds just the trees of two kinds
+-- ---- a field that holds just the trees of some kinds
 
 pub some_is : {A : Type 0} (o : Option A) → is_some o ≡ true → (a : A) × (o ≡ some a)
 unfolding is_some maybe
@@ -95,14 +108,14 @@ unfolding is_some maybe
 none_is none e = refl
 none_is (some a) e = let z : ◌≡◌ {A = ℕ} 0 1 = cc in absurd (omega arith)
 
-abbrev Tests : {A : Type 0} → (Yaml → Option A) → ℕ → ℕ → Type 0
-Tests view a b = (y : Yaml) → is_some (view y) ≡ (eqb (kind_of y) a || eqb (kind_of y) b)
+abbrev Tests : {A : Type 0} → (Yaml → Option A) → List Kind → Type 0
+Tests view kinds = (y : Yaml) → is_some (view y) ≡ takes kinds (kind_of y)
 
-module _ {A : Type 0} (view : Yaml → Option A) (a b : ℕ) (tests : Tests view a b) (l : ℕ) (s : List ℕ) (at : ℕ) where
-  viewed : (w : End) → Walks (field_of (of_kind a b) l) s at w → Walks (field_of view l) s at w
-  unfolding of_kind ◌>>=◌ field_of
-  viewed (At to) w = got (tree l (drop at s)) _ (w.value, drop to s) w.is λ x p e. got (of_kind a b x.0) _ (w.value, drop to s) e λ y q e.
-      chosen (eqb (kind_of x.0) a || eqb (kind_of x.0) b) _ _ q
+module _ {A : Type 0} (view : Yaml → Option A) (kinds : List Kind) (tests : Tests view kinds) (l : ℕ) (s : List ℕ) (at : ℕ) where
+  pub viewed : (w : StdOption ℕ) → Walks (field_of (of_kinds kinds) l) s at w → Walks (field_of view l) s at w
+  unfolding of_kinds ◌>>=◌ field_of
+  viewed (Some to) w = got (tree l (drop at s)) _ (w.value, drop to s) w.is λ x p e. got (of_kinds kinds x.0) _ (w.value, drop to s) e λ y q e.
+      chosen (takes kinds (kind_of x.0)) _ _ q
       (λ t _. let v = some_is (view x.0) (tests x.0 ∙ t) in
       record {
         value = v.0;
@@ -111,7 +124,7 @@ module _ {A : Type 0} (view : Yaml → Option A) (a b : ℕ) (tests : Tests view
         fits = w.fits;
       })
       (λ _ r. none≢ y r)
-  viewed Nowhere w = go (tree l (drop at s)) refl
+  viewed None w = go (tree l (drop at s)) refl
     where
       out : (x : Yaml × List ℕ) (t : Bool) → is_some (view x.0) ≡ t → with_rest x.1 (if t then some x.0 else none) ≡ none → with_rest x.1 (view x.0) ≡ none
       out x true e q = absurd (none-ne-some (x.0, x.1) (sym q))
@@ -119,9 +132,9 @@ module _ {A : Type 0} (view : Yaml → Option A) (a b : ℕ) (tests : Tests view
 
       go : (o : Option (Yaml × List ℕ)) → tree l (drop at s) ≡ o → field_of view l (drop at s) ≡ none
       go none p = no_field view l (drop at s) p
-      go (some x) p = field_of_lem view l (drop at s) x p ∙ out x _ (tests x.0) (sym (field_of_lem (of_kind a b) l (drop at s) x p) ∙ w)
+      go (some x) p = field_of_lem view l (drop at s) x p ∙ out x _ (tests x.0) (sym (field_of_lem (of_kinds kinds) l (drop at s) x p) ∙ w)
 
-text-tests : Tests as_text 3 3
+pub text-tests : Tests (as_text) (Str ∷ [])
 unfolding is_some maybe as_text kind_of
 text-tests null = refl
 text-tests (bool b) = refl
@@ -130,7 +143,7 @@ text-tests (str s) = refl
 text-tests (seq ys) = refl
 text-tests (dict es) = refl
 
-optional-tests : Tests as_optional 0 3
+pub optional-tests : Tests (as_optional) (Null ∷ Str ∷ [])
 unfolding is_some maybe as_optional kind_of
 optional-tests null = refl
 optional-tests (bool b) = refl
@@ -139,7 +152,7 @@ optional-tests (str s) = refl
 optional-tests (seq ys) = refl
 optional-tests (dict es) = refl
 
-flag-tests : Tests as_flag 1 1
+pub flag-tests : Tests (as_flag) (kinds.Bool ∷ [])
 unfolding is_some maybe as_flag kind_of
 flag-tests null = refl
 flag-tests (bool b) = refl
@@ -148,7 +161,7 @@ flag-tests (str s) = refl
 flag-tests (seq ys) = refl
 flag-tests (dict es) = refl
 
-items-tests : Tests as_items 4 4
+pub items-tests : Tests (as_items) (Seq ∷ [])
 unfolding is_some maybe as_items kind_of
 items-tests null = refl
 items-tests (bool b) = refl
@@ -157,58 +170,57 @@ items-tests (str s) = refl
 items-tests (seq ys) = refl
 items-tests (dict es) = refl
 
-expect-tests : (key : List ℕ) → Tests (as_expect key) 0 (expect_kind key)
-unfolding is_some maybe as_expect expect_kind kind_of
-expect-tests key null = refl
-expect-tests key (bool b) = go (one_of key built_in_steps)
-  where
-    go : (t : Bool) → false ≡ (eqb 1 0 || eqb 1 (if t then 0 else 5))
-    go true = refl
-    go false = refl
-expect-tests key (int z) = go (one_of key built_in_steps)
-  where
-    go : (t : Bool) → false ≡ (eqb 2 0 || eqb 2 (if t then 0 else 5))
-    go true = refl
-    go false = refl
-expect-tests key (str s) = go (one_of key built_in_steps)
-  where
-    go : (t : Bool) → false ≡ (eqb 3 0 || eqb 3 (if t then 0 else 5))
-    go true = refl
-    go false = refl
-expect-tests key (seq ys) = go (one_of key built_in_steps)
-  where
-    go : (t : Bool) → false ≡ (eqb 4 0 || eqb 4 (if t then 0 else 5))
-    go true = refl
-    go false = refl
-expect-tests key (dict es) = go (one_of key built_in_steps)
-  where
-    go : (t : Bool) → is_some (if t then none else some (some es)) ≡ (eqb 5 0 || eqb 5 (if t then 0 else 5))
-    go true = refl
-    go false = refl
+-- beside a built-in command, and beside another
+pub built-in-tests : (key : List ℕ) → one_of key built_in_steps ≡ true → Tests (as_expect key) (Null ∷ [])
+unfolding is_some maybe as_expect kind_of
+built-in-tests key h null = refl
+built-in-tests key h (bool b) = refl
+built-in-tests key h (int z) = refl
+built-in-tests key h (str s) = refl
+built-in-tests key h (seq ys) = refl
+built-in-tests key h (dict es) = rw h
 
-module _ (l : ℕ) (s : List ℕ) (at : ℕ) (w : End) where
-  pub text-walks : Walks (field_of (of_kind 3 3) l) s at w → Walks (field_of as_text l) s at w
-  text-walks h = viewed as_text 3 3 text-tests l s at w h
+pub expect-tests : (key : List ℕ) → one_of key built_in_steps ≡ false → Tests (as_expect key) (Null ∷ Map ∷ [])
+unfolding is_some maybe as_expect kind_of
+expect-tests key h null = refl
+expect-tests key h (bool b) = refl
+expect-tests key h (int z) = refl
+expect-tests key h (str s) = refl
+expect-tests key h (seq ys) = refl
+expect-tests key h (dict es) = rw h
 
-  pub optional-walks : Walks (field_of (of_kind 0 3) l) s at w → Walks (field_of as_optional l) s at w
-  optional-walks h = viewed as_optional 0 3 optional-tests l s at w h
+pub tree-walks : (l : ℕ) (s : List ℕ) (at : ℕ) (w : StdOption ℕ) → Walks (tree l) s at w → Walks (field_of some l) s at w
+unfolding ◌>>=◌
+tree-walks l s at (Some to) h = record { value = h.value; is = field_of_lem some l (drop at s) (h.value, drop to s) h.is; forward = h.forward; fits = h.fits }
+tree-walks l s at None h = no_field some l (drop at s) h
 
-  pub flag-walks : Walks (field_of (of_kind 1 1) l) s at w → Walks (field_of as_flag l) s at w
-  flag-walks h = viewed as_flag 1 1 flag-tests l s at w h
+-- ---- a text
 
-  pub items-walks : Walks (field_of (of_kind 4 4) l) s at w → Walks (field_of as_items l) s at w
-  items-walks h = viewed as_items 4 4 items-tests l s at w h
+module _ (s : List ℕ) (at : ℕ) {item : Item} (h : Ok item ≡ header_at s at) where
+  abbrev pub inner : List ℕ
+  inner = take (item.to - item.from) (drop item.from s)
 
-  pub expect-walks : (key : List ℕ) → Walks (field_of (of_kind 0 (expect_kind key)) l) s at w → Walks (field_of (as_expect key) l) s at w
-  expect-walks key h = viewed (as_expect key) 0 (expect_kind key) (expect-tests key) l s at w h
+  text-kind : item.kind ≡ 3 → header (drop at s) ≡ some (3, inner, drop item.to s)
+  text-kind k = header-item s at h ∙ ap (λ (n : ℕ). some (n, inner, drop item.to s)) k
 
-  pub tree-walks : Walks (tree l) s at w → Walks (field_of some l) s at w
-  unfolding ◌>>=◌
-  tree-walks h = go w h
+  pub text-read : eqb item.kind 3 && is_utf8 inner ≡ true → field_of as_text 0 (drop at s) ≡ some (inner, drop item.to s)
+  unfolding field_of as_text tree decode node content_of sound ◌>>=◌
+  text-read e = rw (text-kind (eqb-true item.kind 3 (and_left (eqb item.kind 3) (is_utf8 inner) e)), and_right (eqb item.kind 3) (is_utf8 inner) e)
+
+  pub text-here : eqb item.kind 3 && is_utf8 inner ≡ true → ReadAt (field_of as_text 0) s at item.to
+  text-here e = let i = spans s at h in record { value = inner; is = text-read e; forward = omega (arith, i.start, i.order); fits = i.fits }
+
+  pub no-text : eqb item.kind 3 && is_utf8 inner ≡ false → field_of as_text 0 (drop at s) ≡ none
+  unfolding field_of as_text tree decode node content_of sound ◌>>=◌
+  no-text e = go (eqb item.kind 3) refl e
     where
-      go : (w : End) → Walks (tree l) s at w → Walks (field_of some l) s at w
-      go (At to) h = record { value = h.value; is = field_of_lem some l (drop at s) (h.value, drop to s) h.is; forward = h.forward; fits = h.fits }
-      go Nowhere h = no_field some l (drop at s) h
+      go : (t : Bool) → eqb item.kind 3 ≡ t → t && is_utf8 inner ≡ false → field_of as_text 0 (drop at s) ≡ none
+      go true k u = rw (text-kind (eqb-true item.kind 3 k), u)
+      go false k u = viewed as_text (Str ∷ []) text-tests 0 s at None (other_kind (Str ∷ []) 0 s at item.kind inner (drop item.to s) (header-item s at h) (rw k))
+
+  pub text_ends : (b : Bool) → b ≡ (eqb item.kind 3 && is_utf8 inner) → Walks (field_of as_text 0) s at (then_some b item.to)
+  text_ends true e = text-here (sym e)
+  text_ends false e = no-text (sym e)
 
 -- ---- a command
 
@@ -230,6 +242,14 @@ module _ (l : ℕ) (bs k rest : List ℕ) (e : field_of as_text l bs ≡ some (k
 
   pub command : one_of k step_fields ≡ false → field_of as_command l bs ≡ some (k, rest)
   command h = command-of ∙ rw h
+
+-- what is a command is a text
+pub command-text : (l : ℕ) (bs k rest : List ℕ) → field_of as_command l bs ≡ some (k, rest) → field_of as_text l bs ≡ some (k, rest)
+unfolding field_of as_command ◌>>=◌
+command-text l bs k rest e = got (tree l bs) _ (k, rest) e λ x p e. got (as_text x.0 >>= λ s. if one_of s step_fields then none else some s) _ (k, rest) e λ t q r.
+    got (as_text x.0) _ t q λ u v q. chosen (one_of u step_fields) _ _ q
+    (λ _ n. none≢ t n)
+    (λ _ m. rw (p, v, some-injective _ _ m) r)
 
 -- what is no text is no command
 pub no_text : (l : ℕ) (bs : List ℕ) → field_of as_text l bs ≡ none → field_of as_command l bs ≡ none
@@ -256,3 +276,7 @@ text-part s at to b w =
     let behind : drop (at + 6) s ≡ k ++ drop to s =
     sym (drop-drop 6 at s) ∙ ap (drop 6) (e ∙ append_assoc (head 3 (length k)) k (drop to s)) ∙ drop_at (head 3 (length k)) (k ++ drop to s) 6 (head-length 3 (length k)) in
     rw (m, behind) (take_at k (drop to s) (length k) refl)
+
+pub command-part : (s : List ℕ) (at to : ℕ) → Bytes s → (w : ReadAt (field_of as_command 0) s at to) → w.value ≡ take (to - (at + 6)) (drop (at + 6) s)
+command-part s at to b w =
+    sym (text-part s at to b (record { value = w.value; is = command-text 0 (drop at s) w.value (drop to s) w.is; forward = w.forward; fits = w.fits }))

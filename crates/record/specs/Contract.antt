@@ -1,30 +1,24 @@
 -- Section 5 of document 01, for the contracts inside the crate: what the functions inside the check answer, by the definitions of Read.
--- Uses Base of `refusal`; Tree and Encode of `item`; Meaning of `meaning`; Jobs and Read of this crate. Assumes nothing.
-use Rattle.std.specs.Prelude.{◌≡◌, ℕ, ◌+◌, ◌-◌, ◌≤◌, List, map, Bool, true, false, ◌||◌, eqb, length, take, drop, if◌then◌else◌}
+-- Uses Base of `refusal`; Tree, Encode and Kinds of `item`; Meaning of `meaning`; Jobs and Read of this crate. Assumes nothing.
+use Rattle.std.specs.Prelude.{◌≡◌, ℕ, ◌+◌, ◌-◌, ◌≤◌, List, map, Bool, true, false, Option as StdOption, None, Some, eqb, length, take, drop, if◌then◌else◌}
+use Rattle.std.specs.List.{list_any}
 use Rattle.std.proofs.Math.Option.{Option, none, some}
-use Rattle.refusal.specs.Base.{maybe, one_of, Answer, good}
+use Rattle.refusal.specs.Base.{maybe, Answer, good}
 use Rattle.item.specs.Tree.{Yaml, Ranged}
 use Rattle.item.specs.Encode.{kind_of}
-use Rattle.value.specs.declared.End.{End}
-use Rattle.value.specs.declared.End.TheVariants.{At, Nowhere}
-use Rattle.meaning.specs.Meaning.{Step, built_in_steps}
+use Rattle.item.specs.declared.Kind.{Kind}
+use Rattle.item.specs.Kinds.{number_of}
+use Rattle.meaning.specs.Meaning.{Step}
 use Rattle.meaning.specs.Record.{joined, step_item}
 use Rattle.meaning.specs.Rules.{Each}
 use Rattle.entries.specs.Entries.{Stands}
 use Rattle.entries.specs.declared.Span.{Span}
-use Rattle.entries.specs.declared.Span.TheVariants as spans
 use Rattle.record.specs.Jobs.{Found, nothing, part}
-use Rattle.record.specs.Read.{field_of, as_text, content, in_item, all, step_in, defaults_in, rest_in, fields_in}
-use Rattle.record.specs.declared.Count.{Count}
-use Rattle.record.specs.declared.Count.TheVariants.{Steps, Bad}
+use Rattle.record.specs.Read.{field_of, as_text, content, in_item, all, step_in, defaults_in, rest_in, fields_in, meaning_in}
 
--- a tree of one of two kinds
-unfoldable pub of_kind : ℕ → ℕ → Yaml → Option Yaml
-of_kind a b y = if eqb (kind_of y) a || eqb (kind_of y) b then some y else none
-
--- the kind that expect may have beside a command, other than 0
-unfoldable pub expect_kind : List ℕ → ℕ
-expect_kind key = if one_of key built_in_steps then 0 else 5
+-- a tree of one of some kinds
+unfoldable pub of_kinds : List Kind → Yaml → Option Yaml
+of_kinds kinds y = if list_any (λ kind. eqb (kind_of y) (number_of kind)) kinds then some y else none
 
 -- an item of a kind at a place ends at another
 pub record ItemAt (kind : ℕ) (s : List ℕ) (at to : ℕ) : Type 0 where
@@ -32,9 +26,9 @@ pub record ItemAt (kind : ℕ) (s : List ℕ) (at to : ℕ) : Type 0 where
   pub forward : at + 6 ≤ to
   pub fits : to ≤ length s
 
-abbrev pub ItemEnds : ℕ → List ℕ → ℕ → End → Type 0
-ItemEnds kind s at (At to) = ItemAt kind s at to
-ItemEnds kind s at Nowhere = content kind (drop at s) ≡ none
+abbrev pub ItemEnds : ℕ → List ℕ → ℕ → StdOption ℕ → Type 0
+ItemEnds kind s at (Some to) = ItemAt kind s at to
+ItemEnds kind s at None = content kind (drop at s) ≡ none
 
 unfoldable pub is_some : {A : Type 0} → Option A → Bool
 is_some o = maybe o false (λ _. true)
@@ -61,15 +55,18 @@ rest_steps s = maybe (rest_in s) none (λ x. some (length x.2))
 unfoldable pub meaning_steps : List ℕ → Option ℕ
 meaning_steps s = maybe (fields_in s) none (λ m. some (length m.steps))
 
-abbrev pub count_of : Count → Option ℕ
-count_of (Steps n) = some n
-count_of Bad = none
+unfoldable pub record_steps : List ℕ → Option ℕ
+record_steps b = maybe (meaning_in b) none (λ m. some (length m.steps))
+
+abbrev pub count_of : StdOption ℕ → Option ℕ
+count_of (Some n) = some n
+count_of None = none
 
 -- ---- what was found among items
 
-abbrev pub span_of : Span → Answer Found
-span_of (spans.At start end) = good (part start end)
-span_of spans.Nowhere = good nothing
+abbrev pub span_of : StdOption Span → Answer Found
+span_of (Some span) = good (part span.start span.end)
+span_of None = good nothing
 
 -- ---- the steps of a record, for those who walk along them
 

@@ -1,263 +1,248 @@
-// The record of a scenario (document 01, section 5): the check that bytes are one, and the lookups of its fields and steps. A record
-// comes from outside, so every job takes any bytes, checks them itself and writes nothing.
+// The record of a scenario: the check that bytes are one, and the lookups of its fields and steps. A record comes from outside, so
+// every job takes any bytes, checks them itself and writes nothing.
 #![tactic(auto)]
 
-ghost use Rattle.std.specs.Prelude.{◌≡◌, ◌≤◌, ◌^◌, length, drop};
+ghost use Rattle.std.specs.Prelude.{◌≡◌, ◌-◌, ◌≤◌, ◌^◌, ◌&&◌, eqb, length, take, drop};
+ghost use Rattle.std.specs.List.{list_any};
+ghost use Rattle.std.specs.Option.{is_some as is_there};
+ghost use Rattle.item.specs.Kinds.{number_of};
+ghost use Rattle.utf8.specs.Utf8.{is_utf8};
 ghost use Rattle.value.specs.Walks.{Walks};
-ghost use Rattle.record.specs.Read.{field_of};
+ghost use Rattle.record.specs.Read.{field_of, as_text, as_optional, as_flag, as_items, as_command, as_expect};
 ghost use Rattle.record.specs.Jobs as definition;
 ghost use Rattle.record.specs.Jobs.{part_of, answer_of, lookup_of};
-ghost use Rattle.record.specs.Contract.{span_of, of_kind, expect_kind, ItemEnds, are_texts, are_defaults, is_step, steps_in, rest_steps};
-ghost use Rattle.record.specs.Contract.{meaning_steps, count_of};
+ghost use Rattle.record.specs.Contract.{span_of, of_kinds, ItemEnds, are_texts, are_defaults, is_step, steps_in, rest_steps};
+ghost use Rattle.record.specs.Contract.{meaning_steps, record_steps, count_of};
 
 use entries::{Span, nth_item};
-use item::{Header, LIMIT, header_at};
+use item::{Item, Items, Kind, LIMIT, header_at};
 use meaning::{is_built_in, is_step_field};
 use refusal::Refusal;
-use value::{End, value_at};
+use utf8::is_utf8;
+use value::value_at;
 
 // What the check of a record answers.
-#[derive(Clone, Copy)]
+// An enum of its own, as each public job answers: what it tells has names, and the definitions name its cases.
+#[derive(Clone, Copy, Debug, PartialEq, Eq)]
 pub enum RecordAnswer {
     Good { steps: usize },
     Refused(Refusal),
 }
 
 // What a lookup answers: where the found item begins and ends in the record.
-#[derive(Clone, Copy)]
+// An enum of its own, as each public job answers: what it tells has names, and the definitions name its cases.
+#[derive(Clone, Copy, Debug, PartialEq, Eq)]
 pub enum Lookup {
     Found { start: usize, end: usize },
     Nothing,
     Refused(Refusal),
 }
 
-// How many steps there are, where all is good.
-#[derive(Clone, Copy)]
-enum Count {
-    Steps(usize),
-    Bad,
-}
-
-// The kind that `expect` may have beside a command, other than null.
-fn expect_kind(key: &[u8]) -> usize
-    ensures { result ≡ expect_kind key.now }
+fn number_of(kind: Kind) -> usize
+    ensures { result ≡ number_of kind }
 {
-    if is_built_in(key) {
-        return 0;
-    }
-    5
+    kind as usize
 }
 
-// The end of the value at `at`, whose kind must be one of two.
-fn value_of(s: &[u8], at: usize, one: usize, other: usize, levels: usize) -> End
-    requires { length s.now ≤ 2 ^ 20 }
-    ensures { Walks (field_of (of_kind one other) levels) s.now at result }
+fn is_among(kind: usize, kinds: &[Kind]) -> bool
+    ensures { result ≡ list_any (λ other. eqb kind (number_of other)) kinds.now }
 {
-    let head = header_at(s, at);
-    let Header::Item {
-        kind,
-        from: _,
-        to: _,
-    } = head
-    else {
-        return End::Nowhere;
-    };
-    if kind == one {
-        return value_at(s, at, levels);
-    }
-    if kind == other {
-        return value_at(s, at, levels);
-    }
-    End::Nowhere
+    kinds.iter().any(|&other| kind == number_of(other))
 }
 
-// The end of the item at `at`, which must be of this kind.
-fn item_of(s: &[u8], at: usize, wanted: usize) -> End
-    ensures { ItemEnds wanted s.now at result }
+fn is_text(s: &[u8], item: Item) -> bool
+    requires { (item.from ≤ item.to) × (item.to ≤ length s.now) }
+    ensures { result ≡ eqb item.kind 3 && is_utf8 (take (item.to - item.from) (drop item.from s.now)) }
 {
-    let head = header_at(s, at);
-    let Header::Item { kind, from: _, to } = head else {
-        return End::Nowhere;
-    };
-    if kind == wanted {
-        return End::At(to);
-    }
-    End::Nowhere
+    item.kind == Kind::Str as usize && is_utf8(&s[item.from..item.to])
 }
 
-// Whether these are the items of tags.
-fn texts(s: &[u8]) -> bool
-    requires { length s.now ≤ 2 ^ 20 }
+// Whether texts fill these bytes, one behind another.
+pub fn are_texts(s: &[u8]) -> bool
     ensures { result ≡ are_texts s.now }
 {
-    let mut at = 0;
-    while at < s.len() {
-        let end = value_of(s, at, 3, 3, 0);
-        let End::At(next) = end else {
+    for item in Items::new(s) {
+        let Ok(item) = item else {
             return false;
         };
-        at = next;
+        if !is_text(s, item) {
+            return false;
+        }
     }
     true
 }
 
-fn defaults(s: &[u8]) -> bool
-    requires { length s.now ≤ 2 ^ 20 }
-    ensures { result ≡ are_defaults s.now }
+// The ends of what begins at `at`, where it is what is wanted.
+
+fn item_of(s: &[u8], at: usize, kind: Kind) -> Option<usize>
+    ensures { ItemEnds (number_of kind) s.now at result }
 {
-    let timeout = value_of(s, 0, 0, 3, 0);
-    let End::At(a) = timeout else {
-        return false;
-    };
-    let wall_budget = value_of(s, a, 0, 3, 0);
-    let End::At(b) = wall_budget else {
-        return false;
-    };
-    b == s.len()
+    let item = header_at(s, at).ok()?;
+    (item.kind == number_of(kind)).then_some(item.to)
 }
 
-// Whether this is the content of a step.
-fn step_content(s: &[u8]) -> bool
-    requires { length s.now ≤ 2 ^ 20 }
-    ensures { result ≡ is_step s.now }
+fn text_at(s: &[u8], at: usize) -> Option<usize>
+    ensures { Walks (field_of as_text 0) s.now at result }
 {
-    let name = value_of(s, 0, 3, 3, 0);
-    let End::At(a) = name else {
-        return false;
-    };
-    let id = value_of(s, a, 3, 3, 0);
-    let End::At(b) = id else {
-        return false;
-    };
-    let key = value_of(s, b, 3, 3, 0);
-    let End::At(c) = key else {
-        return false;
-    };
-    if is_step_field(&s[b + 6..c]) {
-        return false;
+    let item = header_at(s, at).ok()?;
+    is_text(s, item).then_some(item.to)
+}
+
+fn command_at(s: &[u8], at: usize) -> Option<usize>
+    ensures { Walks (field_of as_command 0) s.now at result }
+{
+    let end = text_at(s, at)?;
+    if is_step_field(&s[at + 6..end]) {
+        return None;
     }
-    let value = value_at(s, c, 29);
-    let End::At(d) = value else {
-        return false;
-    };
-    let timeout = value_of(s, d, 0, 3, 0);
-    let End::At(e) = timeout else {
-        return false;
-    };
-    let continues = value_of(s, e, 1, 1, 0);
-    let End::At(f) = continues else {
-        return false;
-    };
-    let expect = value_of(s, f, 0, expect_kind(&s[b + 6..c]), 29);
-    let End::At(g) = expect else {
-        return false;
-    };
-    g == s.len()
+    Some(end)
 }
 
-fn steps(s: &[u8]) -> Count
+fn value_of(s: &[u8], at: usize, kinds: &[Kind], levels: usize) -> Option<usize>
+    requires { length s.now ≤ 2 ^ 20 }
+    ensures { Walks (field_of (of_kinds kinds.now) levels) s.now at result }
+{
+    let item = header_at(s, at).ok()?;
+    if !is_among(item.kind, kinds) {
+        return None;
+    }
+    value_at(s, at, levels)
+}
+
+fn optional_at(s: &[u8], at: usize) -> Option<usize>
+    requires { length s.now ≤ 2 ^ 20 }
+    ensures { Walks (field_of as_optional 0) s.now at result }
+{
+    value_of(s, at, &[Kind::Null, Kind::Str], 0)
+}
+
+fn flag_at(s: &[u8], at: usize) -> Option<usize>
+    requires { length s.now ≤ 2 ^ 20 }
+    ensures { Walks (field_of as_flag 0) s.now at result }
+{
+    value_of(s, at, &[Kind::Bool], 0)
+}
+
+fn items_at(s: &[u8], at: usize) -> Option<usize>
+    requires { length s.now ≤ 2 ^ 20 }
+    ensures { Walks (field_of as_items 31) s.now at result }
+{
+    value_of(s, at, &[Kind::Seq], 31)
+}
+
+// No command that is built in has a mapping beside it.
+fn expect_at(s: &[u8], at: usize, command: &[u8]) -> Option<usize>
+    requires { length s.now ≤ 2 ^ 20 }
+    ensures { Walks (field_of (as_expect command.now) 29) s.now at result }
+{
+    if is_built_in(command) {
+        return value_of(s, at, &[Kind::Null], 29);
+    }
+    value_of(s, at, &[Kind::Null, Kind::Map], 29)
+}
+
+// Where bytes are the content of an item, fields fill them; below each place is named after the field that begins there.
+
+fn defaults(s: &[u8]) -> Option<()>
+    requires { length s.now ≤ 2 ^ 20 }
+    ensures { is_there result ≡ are_defaults s.now }
+{
+    let wall_budget = optional_at(s, 0)?;
+    let end = optional_at(s, wall_budget)?;
+    (end == s.len()).then_some(())
+}
+
+fn step_content(s: &[u8]) -> Option<()>
+    requires { length s.now ≤ 2 ^ 20 }
+    ensures { is_there result ≡ is_step s.now }
+{
+    let id = text_at(s, 0)?;
+    let command = text_at(s, id)?;
+    let value = command_at(s, command)?;
+    let timeout = value_at(s, value, 29)?;
+    let continues = optional_at(s, timeout)?;
+    let expect = flag_at(s, continues)?;
+    let end = expect_at(s, expect, &s[command + 6..value])?;
+    (end == s.len()).then_some(())
+}
+
+fn steps(s: &[u8]) -> Option<usize>
     requires { length s.now ≤ 2 ^ 20 }
     ensures { count_of result ≡ steps_in s.now }
 {
-    let mut at = 0;
     let mut count = 0;
-    while at < s.len() {
-        let end = item_of(s, at, 19);
-        let End::At(next) = end else {
-            return Count::Bad;
-        };
-        if !step_content(&s[at + 6..next]) {
-            return Count::Bad;
+    for item in Items::new(s) {
+        let item = item.ok()?;
+        if item.kind != Kind::Step as usize {
+            return None;
         }
-        at = next;
+        step_content(&s[item.from..item.to])?;
         count += 1;
     }
-    Count::Steps(count)
+    Some(count)
 }
 
 // The last three fields: defaults, fail_on and steps.
-fn rest(s: &[u8], at: usize) -> Count
+fn rest(s: &[u8], at: usize) -> Option<usize>
     requires { length s.now ≤ 2 ^ 20 }
     ensures { count_of result ≡ rest_steps (drop at s.now) }
 {
-    let pair = item_of(s, at, 17);
-    let End::At(a) = pair else {
-        return Count::Bad;
-    };
-    if !defaults(&s[at + 6..a]) {
-        return Count::Bad;
+    let fail_on = item_of(s, at, Kind::Defaults)?;
+    defaults(&s[at + 6..fail_on])?;
+    let list = items_at(s, fail_on)?;
+    let end = item_of(s, list, Kind::Steps)?;
+    if end != s.len() {
+        return None;
     }
-    let fail_on = value_of(s, a, 4, 4, 31);
-    let End::At(b) = fail_on else {
-        return Count::Bad;
-    };
-    let list = item_of(s, b, 18);
-    let End::At(c) = list else {
-        return Count::Bad;
-    };
-    if c != s.len() {
-        return Count::Bad;
-    }
-    steps(&s[b + 6..c])
+    steps(&s[list + 6..end])
 }
 
 // All eight fields, and how many steps the last has.
-fn fields(s: &[u8]) -> Count
+fn fields(s: &[u8]) -> Option<usize>
     requires { length s.now ≤ 2 ^ 20 }
     ensures { count_of result ≡ meaning_steps s.now }
 {
-    let name = value_of(s, 0, 3, 3, 0);
-    let End::At(a) = name else {
-        return Count::Bad;
-    };
-    let description = value_of(s, a, 3, 3, 0);
-    let End::At(b) = description else {
-        return Count::Bad;
-    };
-    let tags = item_of(s, b, 4);
-    let End::At(c) = tags else {
-        return Count::Bad;
-    };
-    if !texts(&s[b + 6..c]) {
-        return Count::Bad;
+    let description = text_at(s, 0)?;
+    let tags = text_at(s, description)?;
+    let image = item_of(s, tags, Kind::Seq)?;
+    if !are_texts(&s[tags + 6..image]) {
+        return None;
     }
-    let image = value_of(s, c, 3, 3, 0);
-    let End::At(d) = image else {
-        return Count::Bad;
-    };
-    let setup = value_at(s, d, 31);
-    let End::At(e) = setup else {
-        return Count::Bad;
-    };
-    rest(s, e)
+    let setup = text_at(s, image)?;
+    let defaults = value_at(s, setup, 31)?;
+    rest(s, defaults)
+}
+
+fn whole(record: &[u8]) -> Option<usize>
+    ensures { count_of result ≡ record_steps «record».now }
+{
+    if record.len() > LIMIT {
+        return None;
+    }
+    let end = item_of(record, 0, Kind::Scenario)?;
+    if end != record.len() {
+        return None;
+    }
+    fields(&record[6..end])
 }
 
 pub fn check_record(record: &[u8]) -> RecordAnswer
     ensures { answer_of result ≡ definition.check_record «record».now }
 {
-    if record.len() > LIMIT {
-        return RecordAnswer::Refused(Refusal::Malformed);
-    }
-    let whole = item_of(record, 0, 16);
-    let End::At(end) = whole else {
-        return RecordAnswer::Refused(Refusal::Malformed);
-    };
-    if end != record.len() {
-        return RecordAnswer::Refused(Refusal::Malformed);
-    }
-    match fields(&record[6..end]) {
-        Count::Steps(steps) => RecordAnswer::Good { steps },
-        Count::Bad => RecordAnswer::Refused(Refusal::Malformed),
+    match whole(record) {
+        Some(steps) => RecordAnswer::Good { steps },
+        None => RecordAnswer::Refused(Refusal::Malformed),
     }
 }
 
-// What was found among items.
-fn found(span: Span) -> Lookup
-    ensures { lookup_of result ≡ span_of span }
-{
-    match span {
-        Span::At { start, end } => Lookup::Found { start, end },
-        Span::Nowhere => Lookup::Nothing,
+impl From<Option<Span>> for Lookup {
+    ghost from_gives = { λ span lookup. lookup_of lookup ≡ span_of span };
+
+    fn from(span: Option<Span>) -> Lookup {
+        match span {
+            Some(Span { start, end }) => Lookup::Found { start, end },
+            None => Lookup::Nothing,
+        }
     }
 }
 
@@ -266,15 +251,12 @@ pub fn field(record: &[u8], place: usize) -> Lookup
     ensures { lookup_of result ≡ definition.field «record».now place }
 {
     match check_record(record) {
-        RecordAnswer::Refused(e) => Lookup::Refused(e),
-        RecordAnswer::Good { steps: _ } => {
-            if place == 0 {
+        RecordAnswer::Refused(refusal) => Lookup::Refused(refusal),
+        RecordAnswer::Good { .. } => {
+            if place == 0 || place > 8 {
                 return Lookup::Refused(Refusal::OutOfRange);
             }
-            if place > 8 {
-                return Lookup::Refused(Refusal::OutOfRange);
-            }
-            found(nth_item(record, 6, place - 1))
+            Lookup::from(nth_item(record, 6, place - 1))
         }
     }
 }
@@ -284,17 +266,14 @@ pub fn step(record: &[u8], number: usize) -> Lookup
     ensures { lookup_of result ≡ definition.step «record».now number }
 {
     match check_record(record) {
-        RecordAnswer::Refused(e) => Lookup::Refused(e),
+        RecordAnswer::Refused(refusal) => Lookup::Refused(refusal),
         RecordAnswer::Good { steps } => {
-            if number == 0 {
-                return Lookup::Refused(Refusal::OutOfRange);
-            }
-            if number > steps {
+            if number == 0 || number > steps {
                 return Lookup::Refused(Refusal::OutOfRange);
             }
             match nth_item(record, 6, 7) {
-                Span::At { start, end: _ } => found(nth_item(record, start + 6, number - 1)),
-                Span::Nowhere => Lookup::Nothing,
+                Some(list) => Lookup::from(nth_item(record, list.start + 6, number - 1)),
+                None => Lookup::Nothing,
             }
         }
     }
@@ -304,11 +283,5 @@ pub fn step(record: &[u8], number: usize) -> Lookup
 pub fn part(record: &[u8], start: usize, end: usize) -> &[u8]
     ensures { result.now ≡ part_of «record».now start end }
 {
-    if end > record.len() {
-        return &record[..0];
-    }
-    if start > end {
-        return &record[..0];
-    }
-    &record[start..end]
+    record.get(start..end).unwrap_or(&[])
 }

@@ -5,7 +5,7 @@
 ghost use Rattle.std.specs.Prelude.{◌≡◌};
 ghost use Rattle.refusal.specs.Told.{told, told_of};
 
-#[derive(Clone, Copy)]
+#[derive(Clone, Copy, Debug, PartialEq, Eq)]
 pub enum Refusal {
     TextTooLong,
     NotUtf8,
@@ -59,7 +59,7 @@ pub enum Refusal {
 }
 
 // What an answer names of a refusal, 0 where it names none.
-#[derive(Clone, Copy)]
+#[derive(Clone, Copy, Debug, Default, PartialEq, Eq)]
 pub struct Told {
     pub number: u32,
     pub line: u32,

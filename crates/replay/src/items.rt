@@ -1,90 +1,86 @@
 // Items at the ends of their ranges, and bytes that are read as items.
 ghost use Rattle.std.specs.Prelude.{◌≤◌, length};
 
-use crate::print::{print, print_byte, print_bytes, print_spaced};
-use crate::stream::END;
-use item::Header;
+use crate::print::Hex;
+use item::{Broken, Integer, Item};
+use record::part;
 use std::io;
-
-fn print_line(rt: &impl Print, bytes: &[u8]) -> io::Result<()> {
-    print_bytes(rt, bytes)?;
-    print_byte(rt, b'\n')
-}
+use std::io::Write;
 
 // What stands around the item must stay.
-fn print_int(rt: &impl Print, negative: bool, magnitude: u64) -> io::Result<()> {
-    let mut out = [7u8; 16];
-    item::put_int(&mut out, 1, negative, magnitude);
-    print_line(rt, &out)
+fn print_int(out: &mut impl Write, negative: bool, magnitude: u64) -> io::Result<()> {
+    let mut bytes = [7u8; 16];
+    let n = Integer {
+        negative,
+        magnitude,
+    };
+    item::put_int(&mut bytes, 1, n);
+    writeln!(out, "{}", Hex(&bytes))
 }
 
-fn print_small(rt: &impl Print, value: bool) -> io::Result<()> {
-    let mut out = [7u8; 16];
-    item::put_bool(&mut out, 1, value);
-    item::put_null(&mut out, 9);
-    print_line(rt, &out)
+fn print_small(out: &mut impl Write, value: bool) -> io::Result<()> {
+    let mut bytes = [7u8; 16];
+    item::put_bool(&mut bytes, 1, value);
+    item::put_null(&mut bytes, 9);
+    writeln!(out, "{}", Hex(&bytes))
 }
 
-fn print_string(rt: &impl Print, s: &[u8]) -> io::Result<()>
+fn print_string(out: &mut impl Write, s: &[u8]) -> io::Result<()>
     requires { length s.now ≤ 9 }
 {
-    let mut out = [7u8; 16];
-    item::put_string(&mut out, 1, s);
-    print_line(rt, &out)
+    let mut bytes = [7u8; 16];
+    item::put_string(&mut bytes, 1, s);
+    writeln!(out, "{}", Hex(&bytes))
 }
 
-fn print_zeros(rt: &impl Print, out: &mut [u8], from: usize, to: usize) -> io::Result<()>
-    requires { (from ≤ to) × (to ≤ length out.old) }
+fn print_zeros(out: &mut impl Write, from: usize, to: usize) -> io::Result<()>
+    requires { (from ≤ to) × (to ≤ 4) }
 {
-    item::zero_bytes(&mut out[from..to]);
-    print_line(rt, out)
+    let mut bytes = [7u8; 4];
+    bytes[from..to].fill(0);
+    writeln!(out, "{}", Hex(&bytes))
 }
 
-fn print_integers(rt: &impl Print) -> io::Result<()> {
-    print_int(rt, false, 0)?;
-    print_int(rt, true, 0)?;
-    print_int(rt, true, 1)?;
-    print_int(rt, false, 255)?;
-    print_int(rt, true, 256)?;
-    print_int(rt, false, 9223372036854775807)?;
-    print_int(rt, true, 9223372036854775807)?;
-    print_int(rt, true, 9223372036854775808)
+fn print_integers(out: &mut impl Write) -> io::Result<()> {
+    for (negative, magnitude) in [
+        (false, 0),
+        (true, 0),
+        (true, 1),
+        (false, 255),
+        (true, 256),
+        (false, 9223372036854775807),
+        (true, 9223372036854775807),
+        (true, 9223372036854775808),
+    ] {
+        print_int(out, negative, magnitude)?;
+    }
+    Ok(())
 }
 
-pub(crate) fn print_items(rt: &impl Print) -> io::Result<()> {
-    print_integers(rt)?;
-    print_small(rt, true)?;
-    print_small(rt, false)?;
-    print_string(rt, b"")?;
-    print_string(rt, b"strike")?;
-    print_string(rt, b"123456789")?;
-    print_zeros(rt, &mut [7u8; 4], 1, 3)?;
-    print_zeros(rt, &mut [7u8; 4], 4, 4)
+pub(crate) fn print_items(out: &mut impl Write) -> io::Result<()> {
+    print_integers(out)?;
+    print_small(out, true)?;
+    print_small(out, false)?;
+    print_string(out, b"")?;
+    print_string(out, b"strike")?;
+    print_string(out, b"123456789")?;
+    print_zeros(out, 1, 3)?;
+    print_zeros(out, 4, 4)
 }
 
-// Of all places END stands for the largest.
-fn place(n: usize) -> usize {
-    if n == END { 18446744073709551615 } else { n }
-}
-
-pub(crate) fn print_header(rt: &impl Print, s: &[u8], n: usize) -> io::Result<()> {
-    match item::header_at(s, place(n)) {
-        Header::Item { kind, from, to } => {
-            print(rt, b"item")?;
-            print_spaced(rt, kind)?;
-            print_spaced(rt, from)?;
-            print_spaced(rt, to)
-        }
-        Header::Cut => print(rt, b"cut"),
-        Header::PastEnd => print(rt, b"past end"),
+pub(crate) fn print_header(out: &mut impl Write, s: &[u8], at: usize) -> io::Result<()> {
+    match item::header_at(s, at) {
+        Ok(Item { kind, from, to }) => write!(out, "item {kind} {from} {to}"),
+        Err(Broken::Cut) => write!(out, "cut"),
+        Err(Broken::PastEnd) => write!(out, "past end"),
     }
 }
 
 // So many bytes are held against the rest.
-pub(crate) fn print_same(rt: &impl Print, text: &[u8], n: usize) -> io::Result<()> {
-    if item::same_bytes(record::part(text, 0, n), record::part(text, n, text.len())) {
-        print(rt, b"same")
+pub(crate) fn print_same(out: &mut impl Write, text: &[u8], size: usize) -> io::Result<()> {
+    if item::same_bytes(part(text, 0, size), part(text, size, text.len())) {
+        write!(out, "same")
     } else {
-        print(rt, b"different")
+        write!(out, "different")
     }
 }

@@ -15,89 +15,84 @@ mod stream;
 mod trees;
 mod values;
 
-use crate::print::print_byte;
-use crate::section::{
-    HEADERS, ITEMS, LEAST_WORK, LINES, LOGS, LONG_RECORD, LOOKUPS, PARTS, RECORD_CHECKS, RECORDS,
-    SAME, SCENARIO_CHECKS, SCENARIO_SIZES, SCENARIO_TREES, SCENARIOS, SHARES, Section, TREES,
-    VALUES, next_section,
-};
-use crate::stream::{END, MANY, next_text};
+use crate::section::{Question, Section, next_section};
+use crate::stream::{MANY, each_text};
+use console::Lent;
+use item::LIMIT;
+use std::alloc::Global;
 use std::io;
-use std::io::{BufReader, Read};
+use std::io::{BufReader, BufWriter, Read, Write};
 
-fn answer<R: Print + AllocGlobal>(rt: &R, section: Section, text: &[u8]) -> io::Result<()> {
-    let kind = section.kind;
-    match kind {
-        HEADERS => items::print_header(rt, text, section.first)?,
-        SAME => items::print_same(rt, text, section.first)?,
-        LINES => line_entries::print_lines(rt, text)?,
-        VALUES => values::print_line(rt, text)?,
-        TREES => trees::print_tree(rt, text)?,
-        LEAST_WORK => trees::print_least(rt, text)?,
-        RECORDS => records::print_record(rt, text)?,
-        RECORD_CHECKS => steps::print_record_check(rt, text)?,
-        LOOKUPS => steps::print_lookups(rt, text)?,
-        SHARES => shares::print_shares(rt, text)?,
-        LOGS => logs::print_logs(rt, text)?,
-        SCENARIOS | SCENARIO_TREES | SCENARIO_SIZES => {
-            scenarios::print_scenario(rt, section, text)?;
-        }
-        _ => {}
-    }
-    print_byte(rt, b'\n')
+// What is made once and lent again for each text.
+#[derive(Drop)]
+struct Buffers {
+    text: Vec<u8>,
+    names: Vec<u8>,
+    lent: Lent,
 }
 
-fn replay_texts<R: Print + AllocGlobal>(
-    rt: &R,
+impl Buffers {
+    fn new(alloc: Global) -> io::Result<Buffers> {
+        Ok(Buffers {
+            text: vec![in alloc; 0u8; 1048640]?,
+            names: vec![in alloc; 0u8; 65536]?,
+            lent: Lent::new(alloc, LIMIT, 262144)?,
+        })
+    }
+}
+
+fn answer(
+    out: &mut impl Write,
+    question: Question,
+    text: &[u8],
+    lent: &mut Lent,
+) -> io::Result<()> {
+    match question {
+        Question::Header { at } => items::print_header(out, text, at)?,
+        Question::Same { size } => items::print_same(out, text, size)?,
+        Question::Lines => line_entries::print_lines(out, text)?,
+        Question::Value => values::print_line(out, text)?,
+        Question::Tree => trees::print_tree(out, text, &mut lent.work)?,
+        Question::LeastWork => trees::print_least(out, text)?,
+        Question::Scenario { room, shown } => {
+            scenarios::print_scenario(out, text, room, shown, lent)?;
+        }
+        Question::Record => records::print_record(out, text)?,
+        Question::RecordCheck => steps::print_record_check(out, text)?,
+        Question::Lookups => steps::print_lookups(out, text)?,
+        Question::Shares => shares::print_shares(out, text)?,
+        Question::Logs => logs::print_logs(out, text)?,
+    }
+    writeln!(out)
+}
+
+fn replay_section(
+    out: &mut impl Write,
     input: &mut impl Read,
     section: Section,
-    buffer: &mut [u8],
-    texts: usize,
+    buffers: &mut Buffers,
 ) -> io::Result<()> {
-    for _ in 0..texts {
-        let n = next_text(input, buffer)?;
-        if n > buffer.len() {
-            return Ok(());
+    let Buffers { text, names, lent } = buffers;
+    match section {
+        Section::Items => items::print_items(out),
+        Section::LongRecord { from, end } => records::print_long(out, input, text, from, end),
+        Section::Parts => records::print_parts(out),
+        Section::ScenarioChecks => steps::print_scenarios(out, input, text, names, lent),
+        Section::Texts(question) => {
+            each_text(input, text, |text| answer(out, question, text, lent))
         }
-        answer(rt, section, &buffer[0..n])?;
     }
-    Ok(())
-}
-
-fn replay_section<R: Print + AllocGlobal>(
-    rt: &R,
-    input: &mut impl Read,
-    section: Section,
-    buffer: &mut [u8],
-) -> io::Result<()> {
-    let kind = section.kind;
-    match kind {
-        ITEMS => items::print_items(rt),
-        LONG_RECORD => records::print_long(rt, input, buffer, section.first, section.second),
-        PARTS => records::print_parts(rt),
-        SCENARIO_CHECKS => steps::print_scenarios(rt, input, buffer),
-        _ => replay_texts(rt, input, section, buffer, MANY),
-    }
-}
-
-fn replay_sections<R: Print + AllocGlobal>(
-    rt: &R,
-    input: &mut impl Read,
-    buffer: &mut [u8],
-    sections: usize,
-) -> io::Result<()> {
-    for _ in 0..sections {
-        let section = next_section(input)?;
-        if section.kind == END {
-            return Ok(());
-        }
-        replay_section(rt, input, section, buffer)?;
-    }
-    Ok(())
 }
 
 fn main(rt: HostRuntime) -> io::Result<()> {
-    let mut buffer = vec![in rt.alloc(); 0u8; 1048640]?;
+    let mut buffers = Buffers::new(rt.alloc())?;
     let mut input = BufReader::new(rt.alloc(), rt.reader())?;
-    replay_sections(&rt, &mut input, &mut buffer[..], MANY)
+    let mut out = BufWriter::new(rt.alloc(), io::writer(&rt))?;
+    for _ in 0..MANY {
+        let Some(section) = next_section(&mut input)? else {
+            break;
+        };
+        replay_section(&mut out, &mut input, section, &mut buffers)?;
+    }
+    out.flush()
 }

@@ -1,53 +1,30 @@
 // What is read of a scenario.
-use crate::print::{
-    print, print_front, print_numbers, print_ok, print_other, print_other_numbers, print_refusal,
-    print_spaced,
-};
-use crate::section::{SCENARIO_SIZES, SCENARIO_TREES, Section};
-use crate::stream::least;
-use item::LIMIT;
-use scenario::ScenarioAnswer;
+use crate::print::{Hex, Spaced, front, mark_others};
+use crate::section::{Room, Shown};
+use console::{Lent, Numbers};
+use scenario::{ScenarioAnswer, read_scenario};
 use std::io;
+use std::io::Write;
 
-fn print_tree(rt: &impl Print, work: &[u8], bytes: usize) -> io::Result<()> {
-    print(rt, b" tree")?;
-    print_front(rt, work, bytes)
+// What was lent, behind the reading.
+#[derive(Clone, Copy)]
+struct Left<'a> {
+    work: &'a [u8],
+    record: &'a [u8],
+    lines: &'a [u32],
 }
 
-fn print_record(
-    rt: &impl Print,
-    record: &[u8],
-    size: usize,
-    lines: &[u32],
-    steps: usize,
-) -> io::Result<()> {
-    print_ok(rt)?;
-    print_front(rt, record, size)?;
-    print(rt, b" lines")?;
-    print_numbers(rt, lines, steps)
-}
-
-fn print_sizes(
-    rt: &impl Print,
-    tree: usize,
-    size: usize,
-    lines: usize,
-    steps: usize,
-) -> io::Result<()> {
-    print_ok(rt)?;
-    print_spaced(rt, tree)?;
-    print_spaced(rt, size)?;
-    print_spaced(rt, lines)?;
-    print_spaced(rt, steps)
+fn print_record(out: &mut impl Write, left: Left<'_>, size: usize, steps: usize) -> io::Result<()> {
+    let bytes = Hex(front(left.record, size));
+    let lines = Spaced(front(left.lines, steps));
+    write!(out, "ok {bytes} lines{lines}")
 }
 
 fn print_answer(
-    rt: &impl Print,
-    kind: usize,
+    out: &mut impl Write,
+    shown: Shown,
     answer: ScenarioAnswer,
-    work: &[u8],
-    record: &[u8],
-    lines: &[u32],
+    left: Left<'_>,
 ) -> io::Result<()> {
     match answer {
         ScenarioAnswer::Read {
@@ -56,75 +33,55 @@ fn print_answer(
             line_bytes,
             steps,
         } => {
-            if kind == SCENARIO_SIZES {
-                print_sizes(rt, tree_bytes, record_bytes, line_bytes, steps)?;
-            } else {
-                print_record(rt, record, record_bytes, lines, steps)?;
+            match shown {
+                Shown::Sizes => {
+                    write!(out, "ok {tree_bytes} {record_bytes} {line_bytes} {steps}")?;
+                }
+                Shown::Record => print_record(out, left, record_bytes, steps)?,
+                Shown::RecordAndTree => {
+                    print_record(out, left, record_bytes, steps)?;
+                    write!(out, " tree {}", Hex(front(left.work, tree_bytes)))?;
+                }
             }
-            if kind == SCENARIO_TREES {
-                print_tree(rt, work, tree_bytes)?;
-            }
-            print_other(rt, work, tree_bytes, 7)?;
-            print_other(rt, record, record_bytes, 7)?;
-            print_other_numbers(rt, lines, steps, 7)
+            mark_others(out, left.work, tree_bytes, 7)?;
+            mark_others(out, left.record, record_bytes, 7)?;
+            mark_others(out, left.lines, steps, 7)
         }
         ScenarioAnswer::Refused(e) => {
-            print_refusal(rt, e)?;
-            print_other(rt, work, 0, 0)?;
-            print_other(rt, record, 0, 0)?;
-            print_other_numbers(rt, lines, 0, 0)
+            write!(out, "refused {}", Numbers(e))?;
+            mark_others(out, left.work, 0, 0)?;
+            mark_others(out, left.record, 0, 0)?;
+            mark_others(out, left.lines, 0, 0)
         }
     }
 }
 
-fn print_in(
-    rt: &impl Print,
-    kind: usize,
+// As much is lent as there is room, or all.
+pub(crate) fn print_scenario(
+    out: &mut impl Write,
     text: &[u8],
-    work: &mut [u8],
-    record: &mut [u8],
-    lines: &mut [u32],
+    room: Room,
+    shown: Shown,
+    lent: &mut Lent,
 ) -> io::Result<()> {
-    let answer = scenario::read_scenario(text, work, record, lines);
-    print_answer(rt, kind, answer, work, record, lines)
-}
-
-// As much is lent as the section says, or all.
-fn print_in_parts(
-    rt: &impl Print,
-    section: Section,
-    text: &[u8],
-    work: &mut [u8],
-    record: &mut [u8],
-    lines: &mut [u32],
-) -> io::Result<()> {
-    let bytes = least(section.first, work.len());
-    let size = least(section.second, record.len());
-    let places = least(section.third, lines.len());
-    print_in(
-        rt,
-        section.kind,
-        text,
-        &mut work[0..bytes],
-        &mut record[0..size],
-        &mut lines[0..places],
-    )
-}
-
-pub(crate) fn print_scenario<R: Print + AllocGlobal>(
-    rt: &R,
-    section: Section,
-    text: &[u8],
-) -> io::Result<()> {
-    let mut work = vec![in rt.alloc(); 7u8; LIMIT]?;
-    let mut record = vec![in rt.alloc(); 7u8; LIMIT]?;
-    let mut lines = vec![in rt.alloc(); 7u32; 262144]?;
-    print_in_parts(
-        rt,
-        section,
-        text,
-        &mut work[..],
-        &mut record[..],
-        &mut lines[..],
+    let bytes = room.work.min(lent.work.len());
+    let size = room.record.min(lent.record.len());
+    let places = room.lines.min(lent.lines.len());
+    let work = &mut lent.work[..bytes];
+    let record = &mut lent.record[..size];
+    let lines = &mut lent.lines[..places];
+    work.fill(7);
+    record.fill(7);
+    lines.fill(7);
+    let answer = read_scenario(text, work, record, lines);
+    print_answer(
+        out,
+        shown,
+        answer,
+        Left {
+            work,
+            record,
+            lines,
+        },
     )
 }

@@ -1,60 +1,143 @@
-// A section of the stream: its kind, three numbers, its texts, and END.
-use crate::stream::next_number;
+// A section of the stream: its kind, three numbers, its texts, and a number that ends it.
+use crate::stream::{number_at, read_full};
 use std::io;
-use std::io::Read;
+use std::io::{ErrorKind, Read};
 
-// Items at the ends of their ranges. It has no texts and no END.
-pub(crate) const ITEMS: usize = 0;
-// The header at a place of a text, which is the first number; END stands for the largest place of all.
-pub(crate) const HEADERS: usize = 1;
-// Whether so many bytes of a text as the first number says are the same as the others.
-pub(crate) const SAME: usize = 2;
-// The line entries of a text.
-pub(crate) const LINES: usize = 3;
-// Where the key of a line ends, and the line's value.
-pub(crate) const VALUES: usize = 4;
-// The tree of a text that is lent 1,048,576 bytes.
-pub(crate) const TREES: usize = 5;
-// The least work with which a text is answered, from no byte on, and the answer.
-pub(crate) const LEAST_WORK: usize = 6;
-// The record of a scenario and the lines of its steps. The numbers say how much is lent: bytes of work and of record, and line places.
-pub(crate) const SCENARIOS: usize = 7;
-// The same, and the tree left in the work.
-pub(crate) const SCENARIO_TREES: usize = 8;
-// The same outputs, but only how much of each is written, and the count of steps.
-pub(crate) const SCENARIO_SIZES: usize = 9;
-// What the check of a record and its lookups answer.
-pub(crate) const RECORDS: usize = 10;
-// The same of one record that is mostly zeros. It has two texts and no END: one at the front and one from the first number on. The
-// second number is the record's length.
-pub(crate) const LONG_RECORD: usize = 11;
-// Parts that are in order and inside, and parts that are not. It has no texts and no END.
-pub(crate) const PARTS: usize = 12;
-// The check of a scenario's steps, and the times of each. The first text is the list of known names.
-pub(crate) const SCENARIO_CHECKS: usize = 13;
-// The check of a record's steps. A text has the record's length and a count of lines in front, then the lines, the record and the names.
-pub(crate) const RECORD_CHECKS: usize = 14;
-// The lookups of section 6. A text has the record's length in front, then the record and what is looked for, as an id and as a key.
-pub(crate) const LOOKUPS: usize = 15;
-// What drums on one supply get in a beat. A text has a count of wishes and what the supply allows in front, then the wishes.
-pub(crate) const SHARES: usize = 16;
-// A hammer log against a microphone log. A text has five numbers in front, how many hammers and sounds there are and the places of the
-// three lists, then the times of the hammers and of the sounds.
-pub(crate) const LOGS: usize = 17;
-
+// How much is lent for a scenario: bytes of work and of record, and line places.
 #[derive(Clone, Copy)]
-pub(crate) struct Section {
-    pub(crate) kind: usize,
-    pub(crate) first: usize,
-    pub(crate) second: usize,
-    pub(crate) third: usize,
+pub(crate) struct Room {
+    pub(crate) work: usize,
+    pub(crate) record: usize,
+    pub(crate) lines: usize,
 }
 
-pub(crate) fn next_section(input: &mut impl Read) -> io::Result<Section> {
-    Ok(Section {
-        kind: next_number(input)?,
-        first: next_number(input)?,
-        second: next_number(input)?,
-        third: next_number(input)?,
-    })
+// What is printed of a scenario that is read.
+#[derive(Clone, Copy, PartialEq, Eq)]
+pub(crate) enum Shown {
+    // The record, and the lines of the steps.
+    Record,
+    // The same, and the tree left in the work.
+    RecordAndTree,
+    // Only how much of each is written, and the count of steps.
+    Sizes,
+}
+
+// What is asked of each text.
+#[derive(Clone, Copy)]
+pub(crate) enum Question {
+    // The header at a place of a text.
+    Header { at: usize },
+    // Whether so many bytes of a text are the same as the others.
+    Same { size: usize },
+    // The line entries of a text.
+    Lines,
+    // Where the key of a line ends, and the line's value.
+    Value,
+    // The tree of a text that is lent 1,048,576 bytes.
+    Tree,
+    // The least work with which a text is answered, from no byte on, and the answer.
+    LeastWork,
+    // The scenario of a text, and what is left in what is lent.
+    Scenario { room: Room, shown: Shown },
+    // What the check of a record and its lookups answer.
+    Record,
+    // The check of a record's steps. A text has the record's length and a count of lines in front, then the lines, the record and the names.
+    RecordCheck,
+    // The lookups by id, by key and of `times`. A text has the record's length in front, then the record and what is looked for, as an id and
+    // as a key.
+    Lookups,
+    // What drums on one supply get in a beat. A text has a count of wishes and what the supply allows in front, then the wishes.
+    Shares,
+    // A hammer log against a microphone log. A text has five numbers in front, how many hammers and sounds there are and the places of the
+    // three lists, then the times of the hammers and of the sounds.
+    Logs,
+}
+
+#[derive(Clone, Copy)]
+pub(crate) enum Section {
+    // Items at the ends of their ranges. It has no texts and no end.
+    Items,
+    Texts(Question),
+    // What the check of a record and its lookups answer, of one record that is mostly zeros. It has two texts and no end: one at the front
+    // and one from a place on. The record ends at `end`.
+    LongRecord { from: usize, end: usize },
+    // Parts that are in order and inside, and parts that are not. It has no texts and no end.
+    Parts,
+    // The check of a scenario's steps, and the times of each. The first text is the list of known names.
+    ScenarioChecks,
+}
+
+// Of all places the largest number stands for the last one that there can be.
+fn place(n: u32) -> usize {
+    if n == u32::MAX {
+        usize::MAX
+    } else {
+        n as usize
+    }
+}
+
+impl Section {
+    fn of_numbers(kind: u32, first: u32, second: u32, third: u32) -> Option<Section> {
+        let room = Room {
+            work: first as usize,
+            record: second as usize,
+            lines: third as usize,
+        };
+        let question = match kind {
+            0 => return Some(Section::Items),
+            1 => Question::Header { at: place(first) },
+            2 => Question::Same {
+                size: first as usize,
+            },
+            3 => Question::Lines,
+            4 => Question::Value,
+            5 => Question::Tree,
+            6 => Question::LeastWork,
+            7 => Question::Scenario {
+                room,
+                shown: Shown::Record,
+            },
+            8 => Question::Scenario {
+                room,
+                shown: Shown::RecordAndTree,
+            },
+            9 => Question::Scenario {
+                room,
+                shown: Shown::Sizes,
+            },
+            10 => Question::Record,
+            11 => {
+                return Some(Section::LongRecord {
+                    from: first as usize,
+                    end: second as usize,
+                });
+            }
+            12 => return Some(Section::Parts),
+            13 => return Some(Section::ScenarioChecks),
+            14 => Question::RecordCheck,
+            15 => Question::Lookups,
+            16 => Question::Shares,
+            17 => Question::Logs,
+            _ => return None,
+        };
+        Some(Section::Texts(question))
+    }
+}
+
+// None where the stream ends.
+pub(crate) fn next_section(input: &mut impl Read) -> io::Result<Option<Section>> {
+    let mut head = [0u8; 16];
+    if !read_full(input, &mut head)? {
+        return Ok(None);
+    }
+    let section = Section::of_numbers(
+        number_at(&head, 0),
+        number_at(&head, 4),
+        number_at(&head, 8),
+        number_at(&head, 12),
+    );
+    match section {
+        Some(section) => Ok(Some(section)),
+        None => Err(io::Error::from(ErrorKind::InvalidData)),
+    }
 }

@@ -1,81 +1,70 @@
 // What the stream has: numbers of 4 bytes, little-endian, and texts, each a number and so many bytes.
-ghost use Rattle.std.specs.Prelude.{◌≤◌, ◌<◌, length};
-
-use crate::print::wide;
 use std::io;
 use std::io::{ErrorKind, Read};
 
-// Ends a section where a text could follow.
-pub(crate) const END: usize = 4294967295;
 // More than the texts of a section, and than the sections.
 pub(crate) const MANY: usize = 100000000;
-// The most bytes that a text may have.
+// The most bytes that a text of a scenario may have.
 pub(crate) const LONGEST: usize = 65535;
 
-fn pair(a: u8, b: u8) -> usize
-    ensures { result < 65536 }
-{
-    wide(a) + 256 * wide(b)
-}
-
 // The number at a place of a text, or 0 where fewer bytes are left.
-pub(crate) fn number_at(bytes: &[u8], at: usize) -> usize
-    ensures { result < 4294967296 }
-{
-    if bytes.len() < 4 {
-        return 0;
+pub(crate) fn number_at(text: &[u8], at: usize) -> u32 {
+    match text.get(at..).and_then(|rest| rest.first_chunk()) {
+        Some(bytes) => u32::from_le_bytes(*bytes),
+        None => 0,
     }
-    if bytes.len() - 4 < at {
-        return 0;
-    }
-    pair(bytes[at], bytes[at + 1]) + 65536 * pair(bytes[at + 2], bytes[at + 3])
 }
 
-pub(crate) fn least(a: usize, b: usize) -> usize
-    ensures { result ≤ b }
-{
-    if a < b { a } else { b }
-}
-
-// As many numbers as there are places, from a place of a text on.
-pub(crate) fn put_numbers(text: &[u8], from: usize, numbers: &mut [u32])
-    requires { (from ≤ 65536) × (length numbers.old ≤ 65536) }
-{
-    for i in 0..numbers.len() {
-        numbers[i] = number_at(text, from + 4 * i) as u32;
+// As many numbers as there are places, from a place of a text on. Where fewer bytes are left, the other places stay.
+pub(crate) fn put_numbers(text: &[u8], from: usize, numbers: &mut [u32]) {
+    if let Some(rest) = text.get(from..) {
+        for (number, bytes) in numbers.iter_mut().zip(rest.chunks_exact(4)) {
+            *number = number_at(bytes, 0);
+        }
     }
 }
 
 // Whether there are as many bytes as places.
-fn read_full(input: &mut impl Read, bytes: &mut [u8]) -> io::Result<bool> {
+pub(crate) fn read_full(input: &mut impl Read, bytes: &mut [u8]) -> io::Result<bool> {
     match input.read_exact(bytes) {
         Ok(()) => Ok(true),
-        Err(e) => {
-            if e.kind() == ErrorKind::UnexpectedEof {
-                return Ok(false);
-            }
-            Err(e)
-        }
+        Err(e) if e.kind() == ErrorKind::UnexpectedEof => Ok(false),
+        Err(e) => Err(e),
     }
 }
 
-// END where the stream ends.
-pub(crate) fn next_number(input: &mut impl Read) -> io::Result<usize> {
-    let mut bytes = [0u8; 4];
-    if !read_full(input, &mut bytes)? {
-        return Ok(END);
+// The next text, at the front of the buffer; none where the section or the stream ends, or where the text is too long for the buffer.
+// The number that ends a section is longer than any buffer.
+pub(crate) fn next_text<'a>(
+    input: &mut impl Read,
+    buffer: &'a mut [u8],
+) -> io::Result<Option<&'a [u8]>> {
+    let mut size = [0u8; 4];
+    if !read_full(input, &mut size)? {
+        return Ok(None);
     }
-    Ok(number_at(&bytes, 0))
+    let Some(text) = buffer.get_mut(..u32::from_le_bytes(size) as usize) else {
+        return Ok(None);
+    };
+    if !read_full(input, text)? {
+        return Ok(None);
+    }
+    Ok(Some(text))
 }
 
-// The next text is put at the front of the buffer, and its length answered; more than the buffer's where the section or the stream
-// ends, or where the text is too long for it.
-pub(crate) fn next_text(input: &mut impl Read, buffer: &mut [u8]) -> io::Result<usize> {
-    let n = next_number(input)?;
-    if n <= buffer.len() {
-        if !read_full(input, &mut buffer[0..n])? {
-            return Ok(END);
-        }
+// Each text up to the end of the section.
+pub(crate) fn each_text<F: FnMut(&[u8]) -> io::Result<()>>(
+    input: &mut impl Read,
+    buffer: &mut [u8],
+    mut answer: F,
+) -> io::Result<()>
+    requires { F.IsAlwaysCallable answer }
+{
+    for _ in 0..MANY {
+        let Some(text) = next_text(input, buffer)? else {
+            return Ok(());
+        };
+        answer(text)?;
     }
-    Ok(n)
+    Ok(())
 }

@@ -1,66 +1,42 @@
 // The tree of a text, and the least work with which it is answered.
-use crate::print::{
-    print_byte, print_number, print_ok, print_other, print_refusal, print_spaced, print_written,
-};
-use item::LIMIT;
+use crate::print::{mark_others, print_written};
+use console::Numbers;
+use refusal::Refusal;
 use std::io;
-use tree::TreeAnswer;
+use std::io::Write;
+use tree::{TreeAnswer, read_tree};
 
-fn print_answer(rt: &impl Print, answer: TreeAnswer, work: &[u8]) -> io::Result<()> {
-    match answer {
+pub(crate) fn print_tree(out: &mut impl Write, text: &[u8], work: &mut [u8]) -> io::Result<()> {
+    work.fill(7);
+    match read_tree(text, work) {
         TreeAnswer::Read { bytes } => {
-            print_ok(rt)?;
-            print_written(rt, work, bytes)
+            write!(out, "ok")?;
+            print_written(out, work, bytes)
         }
         TreeAnswer::Refused(e) => {
-            print_refusal(rt, e)?;
-            print_other(rt, work, 0, 0)
+            write!(out, "refused {}", Numbers(e))?;
+            mark_others(out, work, 0, 0)
         }
     }
 }
 
-fn print_tree_in(rt: &impl Print, text: &[u8], work: &mut [u8]) -> io::Result<()> {
-    print_answer(rt, tree::read_tree(text, work), work)
-}
-
-pub(crate) fn print_tree<R: Print + AllocGlobal>(rt: &R, text: &[u8]) -> io::Result<()> {
-    let mut work = vec![in rt.alloc(); 7u8; LIMIT]?;
-    print_tree_in(rt, text, &mut work[..])
-}
-
-// Whether the work was too short.
-fn is_short(rt: &impl Print, answer: TreeAnswer, work: &[u8]) -> io::Result<bool> {
+fn print_size(out: &mut impl Write, lent: usize, answer: TreeAnswer) -> io::Result<()> {
     match answer {
-        TreeAnswer::Read { bytes: _ } => Ok(false),
-        TreeAnswer::Refused(e) => {
-            print_other(rt, work, 0, 0)?;
-            Ok(e.told().number == 50)
-        }
+        TreeAnswer::Read { bytes } => write!(out, "{lent} ok {bytes}"),
+        TreeAnswer::Refused(e) => write!(out, "{lent} refused {}", Numbers(e)),
     }
 }
 
-fn print_size(rt: &impl Print, lent: usize, answer: TreeAnswer) -> io::Result<()> {
-    print_number(rt, lent)?;
-    print_byte(rt, b' ')?;
-    match answer {
-        TreeAnswer::Read { bytes } => {
-            print_ok(rt)?;
-            print_spaced(rt, bytes)
-        }
-        TreeAnswer::Refused(e) => print_refusal(rt, e),
-    }
-}
-
-fn print_least_of(rt: &impl Print, text: &[u8], work: &mut [u8]) -> io::Result<()> {
+pub(crate) fn print_least(out: &mut impl Write, text: &[u8]) -> io::Result<()> {
+    let mut work = [7u8; 1024];
     for n in 0..work.len() {
-        let answer = tree::read_tree(text, &mut work[0..n]);
-        if !is_short(rt, answer, &work[0..n])? {
-            return print_size(rt, n, answer);
+        let answer = read_tree(text, &mut work[..n]);
+        if matches!(answer, TreeAnswer::Refused(_)) {
+            mark_others(out, &work[..n], 0, 0)?;
+        }
+        if !matches!(answer, TreeAnswer::Refused(Refusal::WorkTooShort)) {
+            return print_size(out, n, answer);
         }
     }
     Ok(())
-}
-
-pub(crate) fn print_least(rt: &impl Print, text: &[u8]) -> io::Result<()> {
-    print_least_of(rt, text, &mut [7u8; 1024])
 }

@@ -1,41 +1,43 @@
 // Where the key of a line ends, and the line's value.
 ghost use Rattle.std.specs.Prelude.{◌≤◌, length};
 
-use crate::print::{print, print_byte, print_number, print_ok, print_refusal, print_written};
+use crate::print::print_written;
 use crate::stream::LONGEST;
-use flow::Whole;
+use console::Numbers;
 use item::Found;
+use refusal::Refusal;
 use scalar::Role;
 use std::io;
+use std::io::Write;
+use writer::Writer;
 
-fn print_key(rt: &impl Print, found: Found) -> io::Result<()> {
+fn print_key(out: &mut impl Write, found: Found) -> io::Result<()> {
     match found {
-        Found::At(i) => print_number(rt, i)?,
-        Found::Nothing => print(rt, b"none")?,
-    }
-    print_byte(rt, b' ')
-}
-
-fn print_whole(rt: &impl Print, whole: Whole, out: &[u8]) -> io::Result<()> {
-    match whole {
-        Whole::Read { used, key: _ } => {
-            print_ok(rt)?;
-            print_written(rt, out, used)
-        }
-        Whole::Refused(e) => print_refusal(rt, e),
+        Found::At(i) => write!(out, "{i} "),
+        Found::Nothing => write!(out, "none "),
     }
 }
 
-fn print_value(rt: &impl Print, s: &[u8], out: &mut [u8; LONGEST]) -> io::Result<()>
+// How many bytes the value is written as.
+fn read_value(s: &[u8], written: &mut [u8; LONGEST]) -> Result<usize, Refusal>
     requires { length s.now ≤ 65535 }
 {
-    print_whole(rt, flow::flow(s, 32, Role::AsValue, 1, out, 0), out)
+    let mut writer = Writer::new(written);
+    flow::flow(s, 32, Role::AsValue, 1, &mut writer)?;
+    Ok(writer.used())
 }
 
-pub(crate) fn print_line(rt: &impl Print, s: &[u8]) -> io::Result<()> {
+pub(crate) fn print_line(out: &mut impl Write, s: &[u8]) -> io::Result<()> {
     if s.len() > LONGEST {
         return Ok(());
     }
-    print_key(rt, scalar::key_end(s))?;
-    print_value(rt, s, &mut [7u8; LONGEST])
+    let mut written = [7u8; LONGEST];
+    print_key(out, scalar::key_end(s))?;
+    match read_value(s, &mut written) {
+        Ok(used) => {
+            write!(out, "ok")?;
+            print_written(out, &written, used)
+        }
+        Err(e) => write!(out, "refused {}", Numbers(e)),
+    }
 }

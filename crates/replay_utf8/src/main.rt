@@ -2,9 +2,12 @@
 // and prints what it finds: where answers change, how many are accepted, and hashes of all answers.
 #![tactic(auto)]
 
-ghost use Rattle.std.specs.Prelude.{◌+◌, ◌≤◌};
+ghost use Rattle.std.specs.Prelude.{◌≤◌, length};
 
 use std::io;
+
+// Beyond the last code point.
+const TOP: u32 = 0x120000;
 
 // Bytes at which RFC 3629's ranges begin and end, with their neighbours.
 const EDGES: [u8; 24] = [
@@ -12,11 +15,37 @@ const EDGES: [u8; 24] = [
     0xee, 0xef, 0xf0, 0xf1, 0xf3, 0xf4, 0xf5, 0xff,
 ];
 
-// White space, other characters, and characters that are cut off, each as its bytes from the lowest on.
-const PIECES: [u32; 17] = [
-    0x61, 0x20, 0x09, 0xa0c2, 0x85c2, 0x809ae1, 0x8080e2, 0xa880e2, 0x9f81e2, 0x8080e3, 0xa9c3,
-    0x8b80e2, 0xc2, 0xe2, 0x80e2, 0x80, 0xa0,
+// How many sequences of boundary bytes there are, by their length.
+const SEQUENCES: [usize; 5] = [1, 24, 576, 13824, 331776];
+
+// White space, other characters, and characters that are cut off.
+const PIECES: [&[u8]; 17] = [
+    b"a",
+    b" ",
+    b"\t",
+    b"\xc2\xa0",
+    b"\xc2\x85",
+    b"\xe1\x9a\x80",
+    b"\xe2\x80\x80",
+    b"\xe2\x80\xa8",
+    b"\xe2\x81\x9f",
+    b"\xe3\x80\x80",
+    b"\xc3\xa9",
+    b"\xe2\x80\x8b",
+    b"\xc2",
+    b"\xe2",
+    b"\xe2\x80",
+    b"\x80",
+    b"\xa0",
 ];
+
+// A code point's bytes, and zeros behind them.
+#[derive(Clone, Copy)]
+struct Encoded {
+    bytes: [u8; 4],
+    len: usize,
+    ghost fits: { len ≤ 4 },
+}
 
 fn low(n: u32) -> u8 {
     (n % 256) as u8
@@ -26,200 +55,137 @@ fn tail(c: u32) -> u8 {
     low(0x80 + c % 64)
 }
 
-// A code point by the bit layout of RFC 3629, section 3, surrogates and numbers above 10FFFF too.
-fn encode(c: u32) -> [u8; 4] {
-    if c < 0x80 {
-        return [low(c), 0, 0, 0];
+impl Encoded {
+    // By the bit layout of RFC 3629, section 3, surrogates and numbers above 10FFFF too.
+    fn of(c: u32) -> Encoded {
+        match c {
+            0..=0x7f => Encoded {
+                bytes: [low(c), 0, 0, 0],
+                len: 1,
+            },
+            0x80..=0x7ff => Encoded {
+                bytes: [low(0xc0 + c / 64), tail(c), 0, 0],
+                len: 2,
+            },
+            0x800..=0xffff => Encoded {
+                bytes: [low(0xe0 + c / 4096), tail(c / 64), tail(c), 0],
+                len: 3,
+            },
+            _ => Encoded {
+                bytes: [
+                    low(0xf0 + c / 262144 % 8),
+                    tail(c / 4096),
+                    tail(c / 64),
+                    tail(c),
+                ],
+                len: 4,
+            },
+        }
     }
-    if c < 0x800 {
-        return [low(0xc0 + c / 64), tail(c), 0, 0];
+
+    fn as_bytes(&self) -> &[u8] {
+        &self.bytes[..self.len]
     }
-    if c < 0x10000 {
-        return [low(0xe0 + c / 4096), tail(c / 64), tail(c), 0];
-    }
-    [
-        low(0xf0 + c / 262144 % 8),
-        tail(c / 4096),
-        tail(c / 64),
-        tail(c),
-    ]
 }
 
-// How many bytes it has.
-fn size(c: u32) -> usize
-    ensures { result ≤ 4 }
-{
-    if c < 0x80 {
-        return 1;
-    }
-    if c < 0x800 {
-        return 2;
-    }
-    if c < 0x10000 {
-        return 3;
-    }
-    4
-}
-
-fn accepted(bytes: &[u8; 4], n: usize) -> bool
-    requires { n ≤ 4 }
-{
-    let all: &[u8] = bytes;
-    utf8::is_utf8(&all[0..n])
-}
-
-fn white(bytes: &[u8; 4], n: usize) -> bool
-    requires { n ≤ 4 }
-{
-    utf8::white_at(bytes, 0, n) == n
-}
-
-fn say(rt: &impl Print, text: &str, n: u64) -> io::Result<()> {
-    println!(rt; "{text} {n}")
-}
-
-fn say_hex(rt: &impl Print, text: &str, n: u32) -> io::Result<()> {
-    println!(rt; "{text} {n:04x}")
-}
-
-fn say_change(rt: &impl Print, is: bool, was: bool, c: u32) -> io::Result<()> {
-    if is == was {
-        return Ok(());
-    }
-    if is {
-        return say_hex(rt, "accepted from", c);
-    }
-    say_hex(rt, "refused from", c)
-}
-
-fn bit(b: bool) -> u64 {
-    if b { 1 } else { 0 }
+fn is_white(bytes: &[u8]) -> bool {
+    utf8::white_at(bytes, 0, bytes.len()) == bytes.len()
 }
 
 // Prints where the answers change. How many code points are accepted.
-fn say_runs(rt: &impl Print) -> io::Result<u64> {
+fn print_runs(rt: &impl Print) -> io::Result<u32> {
     let mut was = false;
-    let mut n: u64 = 0;
-    for c in 0u32..0x120000 {
-        let is = accepted(&encode(c), size(c));
-        say_change(rt, is, was, c)?;
+    let mut n = 0;
+    for c in 0..TOP {
+        let is = utf8::is_utf8(Encoded::of(c).as_bytes());
+        if is && !was {
+            println!(rt; "accepted from {c:04x}")?;
+        }
+        if was && !is {
+            println!(rt; "refused from {c:04x}")?;
+        }
         was = is;
-        n = std::num::wrapping_add_u64(n, bit(is));
+        n += u32::from(is);
     }
     Ok(n)
 }
 
-fn say_whites(rt: &impl Print) -> io::Result<()> {
-    for c in 0u32..0x120000 {
-        if white(&encode(c), size(c)) {
-            say_hex(rt, "white", c)?;
-        }
+fn print_whites(rt: &impl Print) -> io::Result<()> {
+    for c in (0..TOP).filter(|&c| is_white(Encoded::of(c).as_bytes())) {
+        println!(rt; "white {c:04x}")?;
     }
     Ok(())
 }
 
 fn edge(k: usize) -> u8 {
-    EDGES[k % 24]
+    EDGES[k % EDGES.len()]
 }
 
-// The sequence of `len` boundary bytes whose number is `k`, the first byte counting fastest.
-fn edges(k: usize, len: usize) -> u64
+// Whether the sequence of `len` boundary bytes is accepted whose number is `k`, the first byte counting fastest.
+fn edges_accepted(k: usize, len: usize) -> bool
     requires { len ≤ 4 }
 {
-    bit(accepted(
-        &[edge(k), edge(k / 24), edge(k / 576), edge(k / 13824)],
-        len,
-    ))
+    let bytes = [edge(k), edge(k / 24), edge(k / 576), edge(k / 13824)];
+    utf8::is_utf8(&bytes[..len])
 }
 
-fn mix(hash: u64, n: u64) -> u64 {
-    (hash % 0x100000000 * 31 + n % 0x100000000) % 0x100000000
+fn mix(hash: u32, n: u32) -> u32 {
+    hash.wrapping_mul(31).wrapping_add(n)
 }
 
-fn say_edges(rt: &impl Print, len: usize, total: usize) -> io::Result<()>
+fn print_edges(rt: &impl Print, len: usize, total: usize) -> io::Result<()>
     requires { len ≤ 4 }
 {
-    let mut n: u64 = 0;
-    let mut hash: u64 = 0;
+    let mut n = 0;
+    let mut hash = 0;
     for k in 0..total {
-        let b = edges(k, len);
-        n = std::num::wrapping_add_u64(n, b);
-        hash = mix(hash, b);
+        let is = edges_accepted(k, len);
+        n += usize::from(is);
+        hash = mix(hash, u32::from(is));
     }
-    say(rt, "sequences of boundary bytes accepted", n)?;
-    say(rt, "hash", hash)
-}
-
-fn width(piece: u32) -> usize
-    ensures { result ≤ 3 }
-{
-    if piece < 0x100 {
-        return 1;
-    }
-    if piece < 0x10000 {
-        return 2;
-    }
-    3
-}
-
-// Behind a short piece zeros are put too. The next place.
-fn put_piece(bytes: &mut [u8; 16], at: usize, k: usize) -> usize
-    requires { at ≤ 13 }
-    ensures { result ≤ at + 3 }
-{
-    let piece = PIECES[k % 17];
-    bytes[at] = low(piece);
-    bytes[at + 1] = low(piece / 256);
-    bytes[at + 2] = low(piece / 65536);
-    at + width(piece)
+    println!(rt; "sequences of boundary bytes accepted {n}")?;
+    println!(rt; "hash {hash}")
 }
 
 // The two places of a trimmed part, in one number.
-fn places(bytes: &[u8; 16], from: usize, to: usize) -> u64
-    requires { to ≤ 16 }
+fn places(bytes: &[u8], from: usize, to: usize) -> u32
+    requires { (to ≤ 16) × (to ≤ length bytes.now) }
 {
     if from > to {
         return 0;
     }
     let start = utf8::trim_start(bytes, from, to);
     let end = utf8::trim_end(bytes, from, to);
-    (start % 256 * 256 + end % 256) as u64
+    (start * 256 + end) as u32
 }
 
-// Every part of the 16 bytes, also one that cuts a character off.
-fn hash_parts(bytes: &[u8; 16], hash: u64) -> u64 {
+// Every part of the bytes, also one that cuts a character off.
+fn hash_parts(bytes: &[u8; 16], hash: u32) -> u32 {
     let mut h = hash;
-    for k in 0..289usize {
-        h = mix(h, places(bytes, k / 17, k % 17));
+    for from in 0..=16 {
+        for to in 0..=16 {
+            h = mix(h, places(bytes, from, to));
+        }
     }
     h
 }
 
 // Three pieces in a row, by the number of the sequence, and zeros behind them.
-fn hash_pieces(k: usize, hash: u64) -> u64 {
-    let mut bytes = [0u8; 16];
-    let second = put_piece(&mut bytes, 0, k);
-    let third = put_piece(&mut bytes, second, k / 17);
-    put_piece(&mut bytes, third, k / 289);
-    hash_parts(&bytes, hash)
-}
-
-fn hash_trims() -> u64 {
-    let mut hash: u64 = 0;
-    for k in 0..4913usize {
-        hash = hash_pieces(k, hash);
+fn pieces(k: usize) -> [u8; 16] {
+    let mut bytes = [0; 16];
+    let three = [PIECES[k % 17], PIECES[k / 17 % 17], PIECES[k / 289 % 17]];
+    for (place, &b) in bytes.iter_mut().zip(three.iter().copied().flatten()) {
+        *place = b;
     }
-    hash
+    bytes
 }
 
 fn main(rt: HostRuntime) -> io::Result<()> {
-    let accepted = say_runs(&rt)?;
-    say(&rt, "accepted", accepted)?;
-    say_whites(&rt)?;
-    say_edges(&rt, 0, 1)?;
-    say_edges(&rt, 1, 24)?;
-    say_edges(&rt, 2, 576)?;
-    say_edges(&rt, 3, 13824)?;
-    say_edges(&rt, 4, 331776)?;
-    say(&rt, "trims, hash", hash_trims())
+    println!(rt; "accepted {}", print_runs(&rt)?)?;
+    print_whites(&rt)?;
+    for (len, &total) in SEQUENCES.iter().enumerate() {
+        print_edges(&rt, len, total)?;
+    }
+    let hash = (0..4913).fold(0, |hash, k| hash_parts(&pieces(k), hash));
+    println!(rt; "trims, hash {hash}")
 }

@@ -13,10 +13,11 @@ use lib.ListN.{length, take, drop, length-drop}
 use Rattle.refusal.specs.Base.{good, refused, ch}
 use Rattle.refusal.proofs.Tools.{good-inj, refused≢good}
 use Rattle.utf8.specs.Part.{part}
-use Rattle.scalar.specs.declared.quoted_text.Quote.{Quote}
-use Rattle.scalar.specs.declared.quoted_text.Quote.TheVariants.{Single, Double}
+use Rattle.scalar.specs.declared.Quote.{Quote}
+use Rattle.scalar.specs.declared.Quote.TheVariants.{Single, Double}
 use Rattle.scalar.specs.Read.{stop, escape, onto_good, onto_escape, double_quoted, single_quoted}
-use Rattle.scalar.specs.Code.{Content, quoted_of}
+use Rattle.scalar.specs.Contract.{quoted_of}
+use Rattle.scalar.specs.Code.{Content}
 
 -- the string `t` was read from `u`, which leaves `rest`: it has no more bytes than it has places, and where it has as many it is its front
 abbrev Fits : List ℕ → List ℕ → List ℕ → Type 0

@@ -1,19 +1,21 @@
 -- What the code's branches tell of the definitions of the key search. Assumes nothing.
-use Rattle.std.specs.Prelude.{if◌then◌else◌}
-use mathlib.Core.Path.{◌≡◌, refl, sym, ◌∙◌}
+use Rattle.std.specs.Prelude.{Option, Some, None, is_some, if◌then◌else◌}
+use mathlib.Core.Path.{◌≡◌, refl, sym}
 use mathlib.Core.Logic.{◌⊎◌, inl, inr}
 use Prim.Native.Nat.{ℕ, suc, ◌+◌, ◌-◌, ◌<◌, ◌≤◌}
 use native.Mathlib.Omega.{arith}
-use mathlib.Core.Bool.{Bool, true, false, not, ◌||◌, and-false}
+use mathlib.Core.Bool.{Bool, true, false, not, and-false}
 use mathlib.Core.List.{List}
 use mathlib.Core.Option.{none, some}
 use lib.Dec.{eqb}
 use lib.ListN.{length, drop, get_or, drop_of_length-le}
 use native.Mathlib.Numerals.{add-one}
 use lib.Seq.{drop-cons}
-use borrow.Author.Tests.{eq-eqb, ne_eqb, eqb-true}
+use borrow.Author.Tests.{eq-eqb, ne_eqb}
 use Rattle.scalar.specs.Key.{quote_after, depth_after, opens, closes, last_or_space, qualifies, key_end_from}
-use Rattle.scalar.specs.Code.{Quoting, Passes}
+use Rattle.scalar.specs.declared.Quote.{Quote}
+use Rattle.scalar.specs.declared.Quote.TheVariants.{Single, Double}
+use Rattle.scalar.specs.Code.{open_of, Passes}
 
 pub q-open : (q b : ℕ) → q ≡ 0 → (b ≡ 34) ⊎ (b ≡ 39) → b ≡ quote_after q b
 unfolding quote_after
@@ -115,7 +117,7 @@ key-end s q d i h = rw (drop_of_length-le s {i = i} h)
 -- none of the marks, in the order of their numbers
 pub passes-other : (b : ℕ) → ((b ≡ 34) ⊎ ((b ≡ 39) ⊎ ((b ≡ 58) ⊎ ((b ≡ 91) ⊎ ((b ≡ 93) ⊎ ((b ≡ 123) ⊎ (b ≡ 125)))))) → ⊥) → Passes b
 unfolding qualifies
-passes-other b n q d bs o = (rw (ne_eqb b 58 (λ e. n (inr (inr (inl e)))), and-false (eqb q 0)), quote o, depth o)
+passes-other b n o d bs = (rw (ne_eqb b 58 (λ e. n (inr (inr (inl e)))), and-false (eqb (open_of o) 0)), quote o, depth o)
   where
     no-quote : (b ≡ 34) ⊎ (b ≡ 39) → ⊥
     no-quote (inl e) = n (inl e)
@@ -129,29 +131,29 @@ passes-other b n q d bs o = (rw (ne_eqb b 58 (λ e. n (inr (inr (inl e)))), and-
     no-close (inl e) = n (inr (inr (inr (inr (inl e)))))
     no-close (inr e) = n (inr (inr (inr (inr (inr (inr e))))))
 
-    quote : Quoting q → q ≡ quote_after q b
-    quote (inl e) = e ∙ q-plain q b e no-quote
-    quote (inr (inl e)) = q-stay q b (λ z. omega arith) (λ z. no-quote (inl (z ∙ e)))
-    quote (inr (inr e)) = q-stay q b (λ z. omega arith) (λ z. no-quote (inr (z ∙ e)))
+    quote : (o : Option Quote) → open_of o ≡ quote_after (open_of o) b
+    quote None = q-plain 0 b refl no-quote
+    quote (Some Single) = q-stay 39 b (λ z. omega arith) (λ z. no-quote (inr z))
+    quote (Some Double) = q-stay 34 b (λ z. omega arith) (λ z. no-quote (inl z))
 
-    depth : Quoting q → d ≡ depth_after q d b
-    depth (inl e) = d-other q d b e no-open no-close
-    depth (inr (inl e)) = d-quoted q d b (λ z. omega arith)
-    depth (inr (inr e)) = d-quoted q d b (λ z. omega arith)
+    depth : (o : Option Quote) → d ≡ depth_after (open_of o) d b
+    depth None = d-other 0 d b refl no-open no-close
+    depth (Some Single) = d-quoted 39 d b (λ z. omega arith)
+    depth (Some Double) = d-quoted 34 d b (λ z. omega arith)
 
-pub passes_on : (s : List ℕ) (q d i : ℕ) → i < length s → Passes (get_or s i 0) → Quoting q → key_end_from q d (i + 1) (drop (i + 1) s) ≡ key_end_from q d i (drop i s)
-passes_on s q d i h p o =
-    let k = p q d (drop (suc i) s) o in
+pub passes_on : (s : List ℕ) (o : Option Quote) (d i : ℕ) → i < length s → Passes (get_or s i 0)
+    → key_end_from (open_of o) d (i + 1) (drop (i + 1) s) ≡ key_end_from (open_of o) d i (drop i s)
+passes_on s o d i h p =
+    let q = open_of o in
+    let k = p o d (drop (suc i) s) in
     key-turn s q d i q d h (rw (drop-cons s i 0 h) k.0) k.1 k.2
 
--- a byte leaves nothing else open
-pub quoting-on : (q b : ℕ) → Quoting q → Quoting (quote_after q b)
-unfolding quote_after
-quoting-on q b o = go (eqb q 0) (eqb b 39) (eqb b 34) (eqb b q) refl refl
-  where
-    go : (x y z w : Bool) → eqb b 39 ≡ y → eqb b 34 ≡ z → Quoting (if x then (if y || z then b else 0) else if w then 0 else q)
-    go true true z w e f = inr (inr (eqb-true b 39 e))
-    go true false true w e f = inr (inl (eqb-true b 34 f))
-    go true false false w e f = inl refl
-    go false y z true e f = inl refl
-    go false y z false e f = o
+-- a quote that is open is a byte
+pub open-some : (o : Option Quote) → is_some o ≡ true → open_of o ≡ 0 → ⊥
+open-some None e z = cc
+open-some (Some Single) e z = omega arith
+open-some (Some Double) e z = omega arith
+
+pub open-none : (o : Option Quote) → is_some o ≡ false → open_of o ≡ 0
+open-none None e = refl
+open-none (Some quote) e = cc

@@ -6,26 +6,29 @@ use native.Mathlib.Numerals.{add-one}
 use native.Mathlib.Omega.{arith}
 use mathlib.Core.List.{List, [], ◌∷◌}
 use mathlib.Core.Bool.{Bool, true, false, ◌&&◌, ◌||◌, or-false}
-use mathlib.Core.Logic.{◌⊎◌, inl, inr}
+use mathlib.Core.Option.{Option, none, some}
 use lib.ListN.{length, take, drop, get_or, drop_of_length-le}
-use lib.Seq.{drop-cons, drop-drop}
+use lib.IntN.{ℤ}
+use lib.Seq.{length-sets, drop-cons, drop-drop}
 use borrow.Author.Tests.{le-leb, lt-leb, ne_eqb}
 use Rattle.refusal.specs.Base.{◌>>=◌, ch, bytes, same, one_of}
+use Rattle.refusal.specs.declared.Refusal.{Refusal}
 use Rattle.item.specs.Tree.{Yaml, null, bool, int, str, seq, dict}
 use Rattle.item.specs.Encode.{item, encode}
 use Rattle.item.proofs.Size.{item-length, encode-size}
 use Rattle.item.proofs.Same.{same_length}
+use Rattle.writer.specs.declared.Writer.{Writer}
+use Rattle.writer.specs.Writing.{cap_of, Appends, Lacks}
+use Rattle.writer.proofs.Laws.{keeps_same}
 use Rattle.utf8.specs.Part.{part}
 use Rattle.utf8.specs.White.{trim}
-use Rattle.number.specs.Integers.{int_text}
+use Rattle.number.specs.Integers.{integer, int_text}
 use Rattle.scalar.specs.declared.Role.{Role}
 use Rattle.scalar.specs.declared.Role.TheVariants.{AsValue, AsKey}
-use Rattle.scalar.specs.declared.Parsed.{Parsed}
-use Rattle.scalar.specs.declared.Parsed.TheVariants.{Done, Refused}
-use Rattle.scalar.specs.Scalars.{nulls, trues, falses, bool_text, scalar_of}
+use Rattle.scalar.specs.Scalars.{nulls, trues, falses, int_or, bool_text, scalar_of}
 use Rattle.scalar.specs.Read.{cost, charge, scalar, ends_item, ends_colon, stops_plain, plain_text, onto, plain}
-use Rattle.scalar.specs.Contract.{written, is_key, AgreesParsed}
-use Rattle.scalar.specs.Code.{Puts, plain_len}
+use Rattle.scalar.specs.Contract.{written, is_key, Refuses, WroteValue}
+use Rattle.scalar.specs.Code.{plain_len}
 
 -- ---- what a scalar is written as
 
@@ -60,29 +63,42 @@ unfolding written encode
 written-text AsValue s = refl
 written-text AsKey s = refl
 
--- a scalar whose bytes are stored, or have no room, is read as the definition says
-module _ (role : Role) (y : Yaml) (flat : Flat y) (s old new : List ℕ) (at next number : ℕ) (h : next ≤ length s) where
-  pub puts-agree : (r : Parsed) → Puts old new at next (written role y) (is_key y) r → AgreesParsed role (scalar (length old) number role at y (drop next s)) s old new at r
+-- a scalar whose bytes are put, or have no room, is read as the definition says
+module _ (role : Role) (y : Yaml) (flat : Flat y) (s : List ℕ) (old new : Writer) (next line : ℕ) (h : next ≤ length s) where
+  pub wrote_scalar : (key : Bool) → key ≡ is_key y → Appends old new (written role y)
+      → WroteValue role (scalar (cap_of old) line role old.used y (drop next s)) s old new next key
   unfolding scalar charge ◌>>=◌
-  puts-agree (Done n used k) p =
+  wrote_scalar key k p =
       let w : length (written role y) ≡ cost role y = written-cost role y flat in
-      let u : used ≡ at + cost role y = p.2.grows ∙ ap (λ (x : ℕ). at + x) w in
-      let m : at + cost role y ≤ length old = omega (arith, p.2.fits) in
+      let u : new.used ≡ old.used + cost role y = p.used ∙ ap (λ (x : ℕ). old.used + x) w in
+      let m : old.used + cost role y ≤ cap_of old = omega (arith, new.within, ap length p.out, length-sets old.out.now old.used (written role y)) in
       record {
         tree = y;
-        is = rw (p.0, u, le-leb (at + cost role y) (length old) m);
-        bytes = p.2.is;
-        grows = p.2.grows;
-        fits = p.2.fits;
-        forward = omega (arith, p.0);
-        keyed = p.1;
+        is = rw (u, le-leb (old.used + cost role y) (cap_of old) m);
+        appends = p;
+        forward = h;
+        keyed = k;
       }
-  puts-agree (Refused e) p =
+
+  pub refused_scalar : (e : Refusal) → Lacks old new (written role y) e → Refuses (scalar (cap_of old) line role old.used y (drop next s)) old new e
+  unfolding scalar charge ◌>>=◌
+  refused_scalar e p =
       let w : length (written role y) ≡ cost role y = written-cost role y flat in
       record {
-        is = rw (p.0, lt-leb (at + cost role y) (length old) (omega (arith, p.1)));
-        kept = ap (take at) p.2;
+        is = rw (p.is, lt-leb (old.used + cost role y) (cap_of old) (omega (arith, p.short)));
+        keeps = keeps_same p.same;
       }
+
+pub flat_scalar : (t : List ℕ) → Flat (scalar_of t)
+unfolding scalar_of int_or
+flat_scalar t = go (one_of t nulls) (one_of t trues) (one_of t falses) (integer t)
+  where
+    go : (x y z : Bool) (o : Option ℤ) → Flat (if x then null else if y then bool true else if z then bool false else int_or t o)
+    go true y z o = tt
+    go false true z o = tt
+    go false false true o = tt
+    go false false false none = tt
+    go false false false (some n) = tt
 
 -- ---- words
 
@@ -117,16 +133,6 @@ module _ (t : List ℕ) where
   false-other k = rw (same_length t (bytes "false") k, same_length t (bytes "False") k, same_length t (bytes "FALSE") k)
 
 -- ---- plain text
-
-pub ends-here : (b : ℕ) → (b ≡ 44) ⊎ ((b ≡ 93) ⊎ (b ≡ 125)) → true ≡ ends_item b
-unfolding ends_item
-ends-here b (inl e) = rw e
-ends-here b (inr (inl e)) = rw e
-ends-here b (inr (inr e)) = rw e
-
-pub ends-not : (b : ℕ) → ((b ≡ 44) ⊎ ((b ≡ 93) ⊎ (b ≡ 125)) → ⊥) → false ≡ ends_item b
-unfolding ends_item
-ends-not b n = rw (ne_eqb b 44 (λ e. n (inl e)), ne_eqb b 125 (λ e. n (inr (inr e))), ne_eqb b 93 (λ e. n (inr (inl e))))
 
 module _ (s : List ℕ) (i : ℕ) where
   pub colon-last : length s ≤ i → true ≡ ends_colon (drop i s)

@@ -1,62 +1,56 @@
 -- Laws of quoted strings: what stands at a place, and what is passed up to it. Assumes nothing.
-use mathlib.Core.Path.{◌≡◌, refl, sym, ap, ◌∙◌, subst}
+use Rattle.std.specs.Prelude.{Result, Ok, Err, Option as Chance, Some, None, ok_or}
+use mathlib.Core.Path.{◌≡◌, refl, sym, ap, ◌∙◌}
 use Prim.Native.Nat.{ℕ, suc, ◌+◌, ◌≤◌, ◌<◌}
 use native.Mathlib.Numerals.{add-one}
 use native.Mathlib.Omega.{arith}
 use mathlib.Core.List.{List, [], ◌∷◌, ◌++◌}
 use mathlib.Core.Bool.{true, false}
 use mathlib.Core.Option.{Option, none, some}
-use mathlib.Core.Logic.{◌⊎◌, inl, inr}
-use lib.ListN.{length, set, take, drop, get_or, drop_of_length-le, length-append}
-use lib.Seq.{sets, drop-cons}
+use lib.ListN.{length, take, drop, get_or, drop_of_length-le, length-append}
+use lib.Seq.{drop-cons, take-suc, take_all}
 use borrow.Author.Tests.{eq-eqb, ne_eqb}
-use Rattle.refusal.specs.Base.{Answer, good, refused, ◌>>=◌, ch}
+use Rattle.refusal.specs.Base.{good, refused, ◌>>=◌, ch}
 use Rattle.refusal.specs.Told.{refusal}
 use Rattle.refusal.proofs.Tools.{good-inj, refused≢good}
 use Rattle.refusal.specs.declared.Refusal.{Refusal}
-use Rattle.item.specs.Tree.{Yaml, str}
+use Rattle.item.specs.Tree.{str}
 use Rattle.item.specs.Encode.{item}
-use Rattle.item.proofs.Runs.{sets-next}
 use Rattle.scalar.specs.declared.Role.{Role}
-use Rattle.scalar.specs.declared.Parsed.{Parsed}
-use Rattle.scalar.specs.declared.quoted_text.Escape.TheVariants.{Byte, Unknown}
+use Rattle.writer.specs.declared.Writer.{Writer}
+use Rattle.writer.specs.Writing.{cap_of, Appends, Lacks}
+use Rattle.writer.proofs.Laws.{appends_more}
 use Rattle.scalar.specs.declared.quoted_text.Piece.{Piece}
-use Rattle.scalar.specs.declared.quoted_text.Piece.TheVariants as piece
-use Rattle.scalar.specs.Read.{Got, escape, stop, scalar, onto_good, double_quoted, single_quoted, string}
-use Rattle.scalar.specs.Code.{Puts, escape_of, Content, AgreesPiece, Spanned}
-use Rattle.scalar.specs.Contract.{is_key, AgreesParsed}
-use Rattle.scalar.proofs.Laws.{written-text, puts-agree}
+use Rattle.scalar.specs.declared.quoted_text.Piece.TheVariants.{Byte, Shut}
+use Rattle.scalar.specs.Read.{escape, stop, scalar, onto_good, double_quoted, single_quoted, string}
+use Rattle.scalar.specs.Code.{escape_of, Content, ReadsPiece, Spanned}
+use Rattle.scalar.specs.Contract.{is_key, Refuses, WroteValue}
+use Rattle.scalar.proofs.Laws.{written-text, wrote_scalar, refused_scalar}
 
--- ---- escapes
+-- what the code's answer tells of an escape
+pub escaped_err : (o : Option ℕ) (r : Chance ℕ) (d e : Refusal) → r ≡ escape_of o → Err e ≡ ok_or r d → (e ≡ d) × (o ≡ none)
+escaped_err none r d e p q = let k : Err e ≡ ok_or None d = rw p at q in (cc, refl)
+escaped_err (some b) r d e p q = let k : Err e ≡ ok_or (Some b) d = rw p at q in cc
 
-pub escape-self : (b : ℕ) → (b ≡ 34) ⊎ ((b ≡ 47) ⊎ (b ≡ 92)) → Byte b ≡ escape_of (escape b)
-unfolding escape
-escape-self b (inl e) = rw e
-escape-self b (inr (inl e)) = rw e
-escape-self b (inr (inr e)) = rw e
-
-pub escape-none : (b : ℕ) → (b ≡ 110 → ⊥) → (b ≡ 116 → ⊥) → (b ≡ 114 → ⊥) → (b ≡ 48 → ⊥) → ((b ≡ 34) ⊎ ((b ≡ 47) ⊎ (b ≡ 92)) → ⊥) → Unknown ≡ escape_of (escape b)
-unfolding escape
-escape-none b n t r z o = rw (ne_eqb b 110 n, ne_eqb b 116 t, ne_eqb b 114 r, ne_eqb b 48 z, ne_eqb b 34 (λ e. o (inl e)), ne_eqb b 92 (λ e. o (inr (inr e))), ne_eqb b 47 (λ e. o (inr (inl e))))
-
-pub of-unknown : (o : Option ℕ) → Unknown ≡ escape_of o → o ≡ none
-of-unknown none e = refl
-of-unknown (some b) e = absurd (let z : ◌≡◌ {A = ℕ} 0 1 = cc in omega arith)
-
-pub of-byte : (o : Option ℕ) (b : ℕ) → Byte b ≡ escape_of o → o ≡ some b
-of-byte none b e = absurd (let z : ◌≡◌ {A = ℕ} 0 1 = cc in omega arith)
-of-byte (some a) b e = let q : a ≡ b = cc in rw q
+pub escaped_ok : (o : Option ℕ) (r : Chance ℕ) (d : Refusal) (b : ℕ) → r ≡ escape_of o → Ok b ≡ ok_or r d → o ≡ some b
+escaped_ok none r d b p q = let k : Ok b ≡ ok_or None d = rw p at q in cc
+escaped_ok (some a) r d b p q = let k : Ok b ≡ ok_or (Some a) d = rw p at q in cc
 
 -- what stands behind a byte that says nothing itself
-pub stands-behind : (f g : List ℕ → Content) (cap line : ℕ) (s : List ℕ) (i : ℕ) → g (drop i s) ≡ f (drop (i + 1) s) → (r : Piece) → AgreesPiece f g cap line s (i + 1) r → AgreesPiece g g cap line s i r
-stands-behind f g cap line s i e (piece.Byte b n) (p, h, k) = (e ∙ p, omega arith, k)
-stands-behind f g cap line s i e (piece.Shut n) (p, h) = (e ∙ p, h)
-stands-behind f g cap line s i e (piece.Refused x) p = e ∙ p
+pub stands_behind : (f g : List ℕ → Content) (cap line : ℕ) (s : List ℕ) (i : ℕ) → g (drop i s) ≡ f (drop (i + 1) s) → (r : Result Piece Refusal)
+    → ReadsPiece f g cap line s (i + 1) r → ReadsPiece g g cap line s i r
+stands_behind f g cap line s i e (Ok (Byte b n)) (p, h, k) = (e ∙ p, omega arith, k)
+stands_behind f g cap line s i e (Ok (Shut n)) (p, h) = (e ∙ p, h)
+stands_behind f g cap line s i e (Err x) p = e ∙ p
 
--- a byte is stored behind those before it
-pub stored_more : (old new t : List ℕ) (at k b : ℕ) → k < length t → new ≡ sets old at (take k t) → b ≡ get_or t k 0 → set new (at + k) b ≡ sets old at (take (k + 1) t)
-stored_more old new t at k b h e q =
-    ap (λ (x : List ℕ). set x (at + k) b) e ∙ ap (set (sets old at (take k t)) (at + k)) q ∙ sets-next old t at k h
+-- a byte is put behind those before it
+pub put_more : {a b c : Writer} (t : List ℕ) (k x : ℕ) → Appends a b (take k t) → Appends b c (x ∷ []) → k < length t → x ≡ get_or t k 0 → Appends a c (take (k + 1) t)
+put_more {a} {b} {c} t k x p q h e =
+    let d : take k t ++ (x ∷ []) ≡ take (k + 1) t = rw (add-one, take-suc t k 0 h, e) in
+    rw (← d) (appends_more p q)
+
+pub put_all : {a b : Writer} (k : ℕ) (t : List ℕ) → length t ≤ k → Appends a b (take k t) → Appends a b t
+put_all k t h p = rw (← take_all k t h) p
 
 module _ (cap line : ℕ) where
   -- ---- what stands at a place
@@ -197,11 +191,14 @@ module _ (cap line : ℕ) where
   unfolding string ◌>>=◌
   string-refused role sum e = refl
 
--- a quoted string whose item is stored, or has no room, is read as the definition says
-pub quoted-agree : (role : Role) (f : List ℕ → Content) (s old new : List ℕ) (at line i next size : ℕ) (p : Spanned f s i next size) (r : Parsed)
-    → Puts old new at next (item 3 p.content) true r → AgreesParsed role (string (length old) line role at (f (drop i s))) s old new at r
-unfolding is_key
-quoted-agree role f s old new at line i next size p r q =
-    subst (λ (x : Answer (Got Yaml)). AgreesParsed role x s old new at r)
-    (sym (ap (string (length old) line role at) p.is ∙ string-good (length old) line role at p.content (drop next s)))
-    (puts-agree role (str p.content) tt s old new at next line p.forward r (rw (written-text role p.content) q))
+-- a quoted string whose item is put, or has no room, is read as the definition says
+module _ (role : Role) (f : List ℕ → Content) (s : List ℕ) (old new : Writer) (line i next size : ℕ) (p : Spanned f s i next size) where
+  reads : string (cap_of old) line role old.used (f (drop i s)) ≡ scalar (cap_of old) line role old.used (str p.content) (drop next s)
+  reads = ap (string (cap_of old) line role old.used) p.is ∙ string-good (cap_of old) line role old.used p.content (drop next s)
+
+  pub wrote_string : Appends old new (item 3 p.content) → WroteValue role (string (cap_of old) line role old.used (f (drop i s))) s old new next true
+  unfolding is_key
+  wrote_string q = rw reads (wrote_scalar role (str p.content) tt s old new next line p.forward true refl (rw (written-text role p.content) q))
+
+  pub refused_string : (e : Refusal) → Lacks old new (item 3 p.content) e → Refuses (string (cap_of old) line role old.used (f (drop i s))) old new e
+  refused_string e q = rw reads (refused_scalar role (str p.content) tt s old new next line p.forward e (rw (written-text role p.content) q))

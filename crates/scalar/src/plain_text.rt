@@ -1,30 +1,42 @@
 // Plain scalars, and what each scalar is written as.
 ghost use Rattle.std.specs.Prelude.{◌≡◌, true, false, List, ℕ, ◌+◌, ◌≤◌, ◌<◌, ◌^◌, length, drop, get_or};
 ghost use Rattle.refusal.specs.Base.{one_of};
-ghost use Rattle.item.specs.Tree.{null, bool, int};
+ghost use Rattle.item.specs.Tree.{null, bool, int, str};
 ghost use Rattle.item.specs.Encode.{signed, item};
+ghost use Rattle.writer.specs.Writing.{cap_of, room_of, Appends};
 ghost use Rattle.number.specs.Integers.{int_text};
 ghost use Rattle.scalar.specs.Scalars.{nulls, trues, falses, scalar_of};
 ghost use Rattle.scalar.specs.Read as read;
 ghost use Rattle.scalar.specs.Read.{ends_item, ends_colon, stops_plain, scalar};
-ghost use Rattle.scalar.specs.Contract.{written, AgreesParsed};
+ghost use Rattle.scalar.specs.Contract.{written, is_key, is_in_flow, ReadsValue};
 ghost use Rattle.scalar.specs.Code.{yaml_of, Puts, plain_len};
 
-use super::{Parsed, Role};
-use item::{put_bool, put_header, put_int, put_null, put_string, same_bytes};
-use number::{Number, int_len, integer, put_int_text};
+use super::{Parsed, Role, Stops};
+use item::{Integer, Kind, same_bytes};
+use number::{int_len, integer, put_int_text};
 use refusal::Refusal;
 use utf8::trimmed;
+use writer::Writer;
 
 // What a plain text says; a string is the text itself.
 #[derive(Clone, Copy)]
-enum Kind {
+enum Said {
     Null,
     Bool(bool),
-    Int { negative: bool, magnitude: u64 },
+    Int(Integer),
     Text,
 }
 
+impl Said {
+    #[tactic(auto, unfolding(crate::specs::Contract::is_key))]
+    fn is_key(self) -> bool
+        ensures { (t : List ℕ) → result ≡ is_key (yaml_of t self) }
+    {
+        !matches!(self, Said::Null)
+    }
+}
+
+// These three compare word by word: `matches!` on the words goes byte by byte, and its proof did not close.
 fn is_null(t: &[u8]) -> bool
     ensures { result ≡ one_of t.now nulls }
 {
@@ -76,170 +88,131 @@ fn is_false(t: &[u8]) -> bool
     same_bytes(t, b"FALSE")
 }
 
-fn kind_of(t: &[u8]) -> Kind
+#[tactic(auto, unfolding(crate::specs::Scalars::scalar_of, crate::specs::Scalars::int_or))]
+fn said_by(t: &[u8]) -> Said
     ensures { yaml_of t.now result ≡ scalar_of t.now }
 {
     if is_null(t) {
-        return Kind::Null;
+        return Said::Null;
     }
     if is_true(t) {
-        return Kind::Bool(true);
+        return Said::Bool(true);
     }
     if is_false(t) {
-        return Kind::Bool(false);
+        return Said::Bool(false);
     }
     match integer(t) {
-        Number::Int {
-            negative,
-            magnitude,
-        } => Kind::Int {
-            negative,
-            magnitude,
-        },
-        Number::No => Kind::Text,
+        Some(n) => Said::Int(n),
+        None => Said::Text,
     }
 }
 
 // A string's item is the same in a key's place.
-fn text_at(t: &[u8], next: usize, out: &mut [u8], at: usize) -> Parsed
-    requires { (length t.now ≤ 65535) × (at ≤ length out.old) × (length out.old ≤ 2 ^ 20) }
-    ensures { Puts out.old out.new at next (item 3 t.now) true result }
+fn put_text(t: &[u8], writer: &mut Writer<'_>) -> Result<(), Refusal>
+    requires { length t.now ≤ 65535 }
+    ensures { Puts writer.old writer.new (item 3 t.now) result }
 {
-    let size = 6 + t.len();
-    if out.len() - at < size {
-        return Parsed::Refused(Refusal::WorkTooShort);
-    }
-    put_string(out, at, t);
-    Parsed::Done {
-        next,
-        used: at + size,
-        key: true,
-    }
+    writer.reserve(6 + t.len())?;
+    writer.string(t);
+    Ok(())
 }
 
-fn put_null_as(next: usize, role: Role, out: &mut [u8], at: usize) -> Parsed
-    requires { (at ≤ length out.old) × (length out.old ≤ 2 ^ 20) }
-    ensures { Puts out.old out.new at next (written role null) false result }
+fn put_null(role: Role, writer: &mut Writer<'_>) -> Result<(), Refusal>
+    ensures { Puts writer.old writer.new (written role null) result }
 {
-    let Role::AsValue = role else {
-        return Parsed::Done {
-            next,
-            used: at,
-            key: false,
-        };
-    };
-    if out.len() - at < 6 {
-        return Parsed::Refused(Refusal::WorkTooShort);
-    }
-    put_null(out, at);
-    Parsed::Done {
-        next,
-        used: at + 6,
-        key: false,
-    }
-}
-
-fn put_bool_as(value: bool, next: usize, role: Role, out: &mut [u8], at: usize) -> Parsed
-    requires { (at ≤ length out.old) × (length out.old ≤ 2 ^ 20) }
-    ensures { Puts out.old out.new at next (written role (bool value)) true result }
-{
-    let Role::AsValue = role else {
-        if value {
-            return text_at(b"true", next, out, at);
+    match role {
+        Role::AsKey => Ok(()),
+        Role::AsValue => {
+            writer.reserve(6)?;
+            writer.null();
+            Ok(())
         }
-        return text_at(b"false", next, out, at);
-    };
-    if out.len() - at < 7 {
-        return Parsed::Refused(Refusal::WorkTooShort);
-    }
-    put_bool(out, at, value);
-    Parsed::Done {
-        next,
-        used: at + 7,
-        key: true,
     }
 }
 
-fn int_key_at(negative: bool, magnitude: u64, next: usize, out: &mut [u8], at: usize) -> Parsed
-    requires { (at ≤ length out.old) × (length out.old ≤ 2 ^ 20) }
-    ensures { Puts out.old out.new at next (item 3 (int_text (signed negative magnitude))) true result }
+fn put_bool(value: bool, role: Role, writer: &mut Writer<'_>) -> Result<(), Refusal>
+    ensures { Puts writer.old writer.new (written role (bool value)) result }
 {
-    let size = int_len(negative, magnitude);
-    if out.len() - at < 6 + size {
-        return Parsed::Refused(Refusal::WorkTooShort);
-    }
-    put_header(out, at, 3, size);
-    put_int_text(out, at + 6, negative, magnitude);
-    Parsed::Done {
-        next,
-        used: at + 6 + size,
-        key: true,
+    match role {
+        Role::AsKey => put_text(if value { b"true" } else { b"false" }, writer),
+        Role::AsValue => {
+            writer.reserve(7)?;
+            writer.bool(value);
+            Ok(())
+        }
     }
 }
 
-fn put_int_as(
-    negative: bool,
-    magnitude: u64,
-    next: usize,
-    role: Role,
-    out: &mut [u8],
-    at: usize,
-) -> Parsed
-    requires { (at ≤ length out.old) × (length out.old ≤ 2 ^ 20) }
-    ensures { Puts out.old out.new at next (written role (int (signed negative magnitude))) true result }
+fn put_int(n: Integer, role: Role, writer: &mut Writer<'_>) -> Result<(), Refusal>
+    ensures { Puts writer.old writer.new (written role (int (signed n.negative n.magnitude))) result }
 {
-    let Role::AsValue = role else {
-        return int_key_at(negative, magnitude, next, out, at);
-    };
-    let is_short = out.len() - at < 14;
-    if is_short {
-        return Parsed::Refused(Refusal::WorkTooShort);
+    match role {
+        Role::AsKey => put_int_key(n, writer),
+        Role::AsValue => {
+            writer.reserve(14)?;
+            writer.int(n);
+            Ok(())
+        }
     }
-    put_int(out, at, negative, magnitude);
-    Parsed::Done {
-        next,
-        used: at + 14,
-        key: true,
-    }
+}
+
+// An integer's text as a string.
+fn put_int_key(n: Integer, writer: &mut Writer<'_>) -> Result<(), Refusal>
+    ensures { Puts writer.old writer.new (item 3 (int_text (signed n.negative n.magnitude))) result }
+{
+    let size = int_len(n);
+    writer.reserve(6 + size)?;
+    writer.header(Kind::Str, size);
+    put_digits(n, size, writer);
+    Ok(())
+}
+
+fn put_digits(n: Integer, size: usize, writer: &mut Writer<'_>)
+    requires size { size ≡ length (int_text (signed n.negative n.magnitude)) }
+    requires room { size ≤ room_of writer.old }
+    ensures { Appends writer.old writer.new (int_text (signed n.negative n.magnitude)) }
+{
+    let out = &mut *writer.out;
+    put_int_text(out, writer.used, n);
+    writer.used += size;
 }
 
 // The scalar that a trimmed text says, in its role.
-fn put_scalar(t: &[u8], next: usize, role: Role, out: &mut [u8], at: usize) -> Parsed
-    requires { (length t.now ≤ 65535) × (at ≤ length out.old) × (length out.old ≤ 2 ^ 20) }
-    ensures { (s : List ℕ) (number : ℕ) → next ≤ length s
-        → AgreesParsed role (scalar (length out.old) number role at (scalar_of t.now) (drop next s)) s out.old
-        out.new at result }
+fn put_scalar(said: Said, t: &[u8], role: Role, writer: &mut Writer<'_>) -> Result<(), Refusal>
+    requires { length t.now ≤ 65535 }
+    ensures { Puts writer.old writer.new (written role (yaml_of t.now said)) result }
 {
-    match kind_of(t) {
-        Kind::Null => put_null_as(next, role, out, at),
-        Kind::Bool(value) => put_bool_as(value, next, role, out, at),
-        Kind::Int {
-            negative,
-            magnitude,
-        } => put_int_as(negative, magnitude, next, role, out, at),
-        Kind::Text => text_at(t, next, out, at),
+    match said {
+        Said::Null => put_null(role, writer),
+        Said::Bool(value) => put_bool(value, role, writer),
+        Said::Int(n) => put_int(n, role, writer),
+        Said::Text => put_text(t, writer),
     }
 }
 
-// A null that nobody wrote.
-pub fn null_at(s: &[u8], next: usize, role: Role, out: &mut [u8], at: usize) -> Parsed
-    requires { (next ≤ length s.now) × (length s.now ≤ 65535) × (at ≤ length out.old) × (length out.old ≤ 2 ^ 20) }
-    ensures { (number : ℕ) → AgreesParsed role (scalar (length out.old) number role at null (drop next s.now))
-        s.now out.old out.new at result }
+/// A null that nobody wrote, before the place `next`. In a key's place it takes no bytes.
+pub fn null_at(
+    s: &[u8],
+    next: usize,
+    role: Role,
+    writer: &mut Writer<'_>,
+) -> Result<Parsed, Refusal>
+    requires in_range { next ≤ length s.now }
+    ensures { (line : ℕ) → ReadsValue role (scalar (cap_of writer.old) line role writer.old.used null (drop next s.now))
+        s.now writer.old writer.new result }
 {
-    put_null_as(next, role, out, at)
+    put_null(role, writer)?;
+    Ok(Parsed { next, key: false })
 }
 
+#[tactic(auto, unfolding(crate::specs::Read::ends_item))]
 fn ends_item(b: u8) -> bool
     ensures { result ≡ ends_item b }
 {
-    match b {
-        b',' | b'}' | b']' => true,
-        _ => false,
-    }
+    matches!(b, b',' | b'}' | b']')
 }
 
-// Whether a colon before the place `i` ends plain text in flow.
+/// Whether a colon before the place `i` ends plain text in flow.
 pub fn ends_colon(s: &[u8], i: usize) -> bool
     requires { i ≤ length s.now }
     ensures { result ≡ ends_colon (drop i s.now) }
@@ -249,40 +222,38 @@ pub fn ends_colon(s: &[u8], i: usize) -> bool
     }
     let b = s[i];
     let is_space = b == b' ';
-    if is_space {
-        return true;
-    }
-    ends_item(b)
+    is_space || ends_item(b)
 }
 
+#[tactic(auto, unfolding(crate::specs::Read::stops_plain))]
 fn stops_plain(s: &[u8], i: usize) -> bool
     requires { i < length s.now }
     ensures { result ≡ stops_plain (get_or s.now i 0) (drop (i + 1) s.now) }
 {
     let b = s[i];
-    if ends_item(b) {
-        return true;
-    }
-    if b != b':' {
-        return false;
-    }
-    ends_colon(s, i + 1)
+    ends_item(b) || b == b':' && ends_colon(s, i + 1)
 }
 
-// Where plain text ends: in flow it stops, at top level it runs to the line's end.
-fn plain_end(s: &[u8], i: usize, in_flow: bool) -> usize
+fn plain_end(s: &[u8], i: usize, stops: Stops) -> usize
     requires { i ≤ length s.now }
-    ensures { (result ≡ i + plain_len in_flow (drop i s.now)) × (result ≤ length s.now) }
+    ensures here { result ≡ i + plain_len (is_in_flow stops) (drop i s.now) }
+    ensures in_range { result ≤ length s.now }
 {
-    if in_flow {
-        let mut end = i;
-        while end < s.len() {
-            if stops_plain(s, end) {
-                break;
-            }
-            end += 1;
+    match stops {
+        Stops::AtLineEnd => s.len(),
+        Stops::InFlow => flow_end(s, i),
+    }
+}
+
+fn flow_end(s: &[u8], i: usize) -> usize
+    requires { i ≤ length s.now }
+    ensures here { result ≡ i + plain_len true (drop i s.now) }
+    ensures in_range { result ≤ length s.now }
+{
+    for end in i..s.len() {
+        if stops_plain(s, end) {
+            return end;
         }
-        return end;
     }
     s.len()
 }
@@ -290,16 +261,21 @@ fn plain_end(s: &[u8], i: usize, in_flow: bool) -> usize
 pub fn plain(
     s: &[u8],
     i: usize,
-    in_flow: bool,
+    stops: Stops,
     role: Role,
-    line: u32,
-    out: &mut [u8],
-    at: usize,
-) -> Parsed
-    requires { (i ≤ length s.now) × (length s.now ≤ 65535) × (at ≤ length out.old) × (length out.old ≤ 2 ^ 20) }
-    ensures { AgreesParsed role (read.plain (length out.old) line in_flow role at (drop i s.now)) s.now
-        out.old out.new at result }
+    writer: &mut Writer<'_>,
+) -> Result<Parsed, Refusal>
+    requires in_range { i ≤ length s.now }
+    requires short { length s.now ≤ 65535 }
+    ensures { (line : ℕ) → ReadsValue role (read.plain (cap_of writer.old) line (is_in_flow stops) role writer.old.used (drop i s.now))
+        s.now writer.old writer.new result }
 {
-    let end = plain_end(s, i, in_flow);
-    put_scalar(trimmed(&s[i..end]), end, role, out, at)
+    let next = plain_end(s, i, stops);
+    let text = trimmed(&s[i..next]);
+    let said = said_by(text);
+    put_scalar(said, text, role, writer)?;
+    Ok(Parsed {
+        next,
+        key: said.is_key(),
+    })
 }

@@ -1,122 +1,99 @@
 // Quoted strings, read twice: where the string ends and how many bytes it has, and then its bytes, straight into their place. Where nothing
 // is escaped they are copied.
 ghost use Rattle.std.specs.Prelude.{◌≡◌, List, true, false, ℕ, ◌+◌, ◌≤◌, ◌<◌, ◌^◌, length, drop};
-ghost use Rattle.std.proofs.lemmas.List.Edits.{sets};
 ghost use Rattle.refusal.specs.Base.{good};
+ghost use Rattle.writer.specs.Writing.{cap_of, room_of, Appends};
 ghost use Rattle.scalar.specs.declared.Role.{Role as Roles};
 ghost use Rattle.scalar.specs.Read.{escape, double_quoted, single_quoted, string};
-ghost use Rattle.scalar.specs.Contract.{AgreesParsed};
-ghost use Rattle.scalar.specs.Code.{escape_of, quoted_of, AgreesPiece, Spans};
+ghost use Rattle.scalar.specs.Contract.{quoted_of, ReadsValue};
+ghost use Rattle.scalar.specs.Code.{escape_of, ReadsPiece, Spans};
 
-use super::{Parsed, Role};
-use item::{copy, put_header};
+use super::{Parsed, Quote};
+use item::Kind;
 use refusal::Refusal;
-
-#[derive(Clone, Copy)]
-enum Quote {
-    Single,
-    Double,
-}
-
-// What an escape stands for.
-#[derive(Clone, Copy)]
-enum Escape {
-    Byte(u8),
-    Unknown,
-}
+use writer::Writer;
 
 // What stands at a place in quotes: a byte of the string, which runs up to `next`, or the closing quote, which stands before `next`.
 #[derive(Clone, Copy)]
 enum Piece {
     Byte { byte: u8, next: usize },
     Shut { next: usize },
-    Refused(Refusal),
 }
 
 // Where a quoted string's closing quote ends, and how many bytes the string has.
 #[derive(Clone, Copy)]
-enum Span {
-    Ends { next: usize, size: usize },
-    Refused(Refusal),
+struct Span {
+    next: usize,
+    size: usize,
 }
 
-fn unescaped(c: u8) -> Escape
+// What an escape stands for.
+#[tactic(auto, unfolding(crate::specs::Read::escape))]
+fn unescaped(c: u8) -> Option<u8>
     ensures { result ≡ escape_of (escape c) }
 {
     match c {
-        b'n' => Escape::Byte(b'\n'),
-        b't' => Escape::Byte(b'\t'),
-        b'r' => Escape::Byte(b'\r'),
-        b'0' => Escape::Byte(0),
-        b'"' | b'\\' | b'/' => Escape::Byte(c),
-        _ => Escape::Unknown,
+        b'n' => Some(b'\n'),
+        b't' => Some(b'\t'),
+        b'r' => Some(b'\r'),
+        b'0' => Some(0),
+        b'"' | b'\\' | b'/' => Some(c),
+        _ => None,
     }
 }
 
 // The escape whose `\` stands before `i`.
-fn escape_piece(s: &[u8], i: usize, line: u32) -> Piece
+fn escape_piece(s: &[u8], i: usize, line: u32) -> Result<Piece, Refusal>
     requires { i ≤ length s.now }
-    ensures { (cap : ℕ) → AgreesPiece (double_quoted cap line true) (double_quoted cap line false) cap line s.now i result }
+    ensures { (cap : ℕ) → ReadsPiece (double_quoted cap line true) (double_quoted cap line false) cap line s.now i result }
 {
     if i == s.len() {
-        return Piece::Refused(Refusal::EscapeCut { line });
+        return Err(Refusal::EscapeCut { line });
     }
-    let Escape::Byte(byte) = unescaped(s[i]) else {
-        return Piece::Refused(Refusal::UnknownEscape { line });
-    };
-    Piece::Byte { byte, next: i + 1 }
+    let byte = unescaped(s[i]).ok_or(Refusal::UnknownEscape { line })?;
+    Ok(Piece::Byte { byte, next: i + 1 })
 }
 
-fn double_piece(s: &[u8], i: usize, line: u32) -> Piece
+fn double_piece(s: &[u8], i: usize, line: u32) -> Result<Piece, Refusal>
     requires { i ≤ length s.now }
-    ensures { (cap : ℕ) → AgreesPiece (double_quoted cap line false) (double_quoted cap line false) cap line s.now i result }
+    ensures { (cap : ℕ) → ReadsPiece (double_quoted cap line false) (double_quoted cap line false) cap line s.now i result }
 {
     if i == s.len() {
-        return Piece::Refused(Refusal::QuoteOpen { line });
+        return Err(Refusal::QuoteOpen { line });
     }
-    let b = s[i];
-    if b == b'"' {
-        return Piece::Shut { next: i + 1 };
-    }
-    if b == b'\\' {
-        return escape_piece(s, i + 1, line);
-    }
-    Piece::Byte {
-        byte: b,
-        next: i + 1,
+    let next = i + 1;
+    match s[i] {
+        b'"' => Ok(Piece::Shut { next }),
+        b'\\' => escape_piece(s, next, line),
+        byte => Ok(Piece::Byte { byte, next }),
     }
 }
 
 // Two quotes are one of the string's.
-fn single_piece(s: &[u8], i: usize, line: u32) -> Piece
+fn single_piece(s: &[u8], i: usize, line: u32) -> Result<Piece, Refusal>
     requires { i ≤ length s.now }
-    ensures { (cap : ℕ) → AgreesPiece (single_quoted cap line false) (single_quoted cap line false) cap line s.now i result }
+    ensures { (cap : ℕ) → ReadsPiece (single_quoted cap line false) (single_quoted cap line false) cap line s.now i result }
 {
     if i == s.len() {
-        return Piece::Refused(Refusal::QuoteOpen { line });
+        return Err(Refusal::QuoteOpen { line });
     }
-    let b = s[i];
-    if b != b'\'' {
-        return Piece::Byte {
-            byte: b,
-            next: i + 1,
-        };
+    let byte = s[i];
+    let next = i + 1;
+    if byte != b'\'' {
+        return Ok(Piece::Byte { byte, next });
     }
-    if i + 1 == s.len() {
-        return Piece::Shut { next: i + 1 };
+    if next == s.len() || s[next] != b'\'' {
+        return Ok(Piece::Shut { next });
     }
-    if s[i + 1] != b'\'' {
-        return Piece::Shut { next: i + 1 };
-    }
-    Piece::Byte {
-        byte: b'\'',
-        next: i + 2,
-    }
+    Ok(Piece::Byte {
+        byte,
+        next: next + 1,
+    })
 }
 
-fn piece_at(quote: Quote, s: &[u8], i: usize, line: u32) -> Piece
+fn piece_at(quote: Quote, s: &[u8], i: usize, line: u32) -> Result<Piece, Refusal>
     requires { i ≤ length s.now }
-    ensures { (cap : ℕ) → AgreesPiece (quoted_of quote cap line) (quoted_of quote cap line) cap line s.now i result }
+    ensures { (cap : ℕ) → ReadsPiece (quoted_of quote cap line) (quoted_of quote cap line) cap line s.now i result }
 {
     match quote {
         Quote::Single => single_piece(s, i, line),
@@ -124,102 +101,78 @@ fn piece_at(quote: Quote, s: &[u8], i: usize, line: u32) -> Piece
     }
 }
 
-fn span_of(quote: Quote, s: &[u8], i: usize, line: u32) -> Span
+// A loop by places, since an escape and two single quotes take two places each.
+fn span_of(quote: Quote, s: &[u8], i: usize, line: u32) -> Result<Span, Refusal>
     requires { i ≤ length s.now }
     ensures { (cap : ℕ) → Spans (quoted_of quote cap line) s.now i result }
 {
     let mut place = i;
     let mut size = 0;
     loop {
-        match piece_at(quote, s, place, line) {
+        match piece_at(quote, s, place, line)? {
             Piece::Byte { byte: _, next } => {
                 place = next;
                 size += 1;
             }
-            Piece::Shut { next } => return Span::Ends { next, size },
-            Piece::Refused(e) => return Span::Refused(e),
+            Piece::Shut { next } => return Ok(Span { next, size }),
         }
     }
 }
 
 // The string's bytes, of which there are `size`.
-fn put_bytes(quote: Quote, s: &[u8], i: usize, line: u32, size: usize, out: &mut [u8], at: usize)
-    requires { (i ≤ length s.now) × (at + size ≤ length out.old) }
+fn put_bytes(quote: Quote, s: &[u8], i: usize, line: u32, size: usize, writer: &mut Writer<'_>)
+    requires in_range { i ≤ length s.now }
+    requires room { size ≤ room_of writer.old }
     ensures { (cap : ℕ) (t rest : List ℕ) → quoted_of quote cap line (drop i s.now) ≡ good (t, rest) → length t ≡ size
-        → out.new ≡ sets out.old at t }
+        → Appends writer.old writer.new t }
 {
     let mut place = i;
-    let mut done = 0;
-    while done < size {
-        let Piece::Byte { byte, next } = piece_at(quote, s, place, line) else {
-            return;
-        };
-        out[at + done] = byte;
-        place = next;
-        done += 1;
+    for _ in 0..size {
+        match piece_at(quote, s, place, line) {
+            Ok(Piece::Byte { byte, next }) => {
+                writer.push(byte);
+                place = next;
+            }
+            Ok(Piece::Shut { next: _ }) => return,
+            Err(_) => return,
+        }
     }
 }
 
 // The same bytes of a string whose closing quote stands before `next`: where each takes one place, none is escaped.
-fn put_content(
+fn put_content(quote: Quote, s: &[u8], i: usize, span: Span, line: u32, writer: &mut Writer<'_>)
+    requires in_range { (i + span.size ≤ length s.now) × (span.next ≤ length s.now) }
+    requires room { span.size ≤ room_of writer.old }
+    ensures { (cap : ℕ) (t : List ℕ) → quoted_of quote cap line (drop i s.now) ≡ good (t, drop span.next s.now)
+        → length t ≡ span.size → Appends writer.old writer.new t }
+{
+    let end = i + span.size;
+    if span.next == end + 1 {
+        writer.put(&s[i..end]);
+    } else {
+        put_bytes(quote, s, i, line, span.size, writer);
+    }
+}
+
+/// The string behind an opening quote. It is the same in a key's place.
+pub fn quoted(
     quote: Quote,
     s: &[u8],
     i: usize,
-    next: usize,
     line: u32,
-    size: usize,
-    out: &mut [u8],
-    at: usize,
-)
-    requires { (i + size ≤ length s.now) × (next ≤ length s.now) × (at + size ≤ length out.old) }
-    ensures { (cap : ℕ) (t : List ℕ) → quoted_of quote cap line (drop i s.now) ≡ good (t, drop next s.now)
-        → length t ≡ size → out.new ≡ sets out.old at t }
+    writer: &mut Writer<'_>,
+) -> Result<Parsed, Refusal>
+    requires in_range { i ≤ length s.now }
+    requires short { length s.now ≤ 65535 }
+    ensures { (role : Roles) → ReadsValue role (string (cap_of writer.old) line role writer.old.used
+        (quoted_of quote (cap_of writer.old) line (drop i s.now))) s.now writer.old writer.new result }
 {
-    let end = i + size;
-    if next == end + 1 {
-        copy(out, at, &s[i..end]);
-        return;
-    }
-    put_bytes(quote, s, i, line, size, out, at);
-}
-
-fn quoted(quote: Quote, s: &[u8], i: usize, line: u32, out: &mut [u8], at: usize) -> Parsed
-    requires { (i ≤ length s.now) × (length s.now ≤ 65535) × (at ≤ length out.old) × (length out.old ≤ 2 ^ 20) }
-    ensures { (role : Roles) → AgreesParsed role (string (length out.old) line role at
-        (quoted_of quote (length out.old) line (drop i s.now))) s.now out.old out.new
-        at result }
-{
-    match span_of(quote, s, i, line) {
-        Span::Ends { next, size } => {
-            if out.len() - at < 6 + size {
-                return Parsed::Refused(Refusal::WorkTooShort);
-            }
-            put_header(out, at, 3, size);
-            put_content(quote, s, i, next, line, size, out, at + 6);
-            Parsed::Done {
-                next,
-                used: at + 6 + size,
-                key: true,
-            }
-        }
-        Span::Refused(e) => Parsed::Refused(e),
-    }
-}
-
-pub fn double_quoted(s: &[u8], i: usize, role: Role, line: u32, out: &mut [u8], at: usize) -> Parsed
-    requires { (i ≤ length s.now) × (length s.now ≤ 65535) × (at ≤ length out.old) × (length out.old ≤ 2 ^ 20) }
-    ensures { AgreesParsed role (string (length out.old) line role at
-        (double_quoted (length out.old) line false (drop i s.now))) s.now out.old
-        out.new at result }
-{
-    quoted(Quote::Double, s, i, line, out, at)
-}
-
-pub fn single_quoted(s: &[u8], i: usize, role: Role, line: u32, out: &mut [u8], at: usize) -> Parsed
-    requires { (i ≤ length s.now) × (length s.now ≤ 65535) × (at ≤ length out.old) × (length out.old ≤ 2 ^ 20) }
-    ensures { AgreesParsed role (string (length out.old) line role at
-        (single_quoted (length out.old) line false (drop i s.now))) s.now out.old
-        out.new at result }
-{
-    quoted(Quote::Single, s, i, line, out, at)
+    let span = span_of(quote, s, i, line)?;
+    writer.reserve(6 + span.size)?;
+    writer.header(Kind::Str, span.size);
+    put_content(quote, s, i, span, line, writer);
+    Ok(Parsed {
+        next: span.next,
+        key: true,
+    })
 }

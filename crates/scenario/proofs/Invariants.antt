@@ -1,6 +1,6 @@
 -- The walk over the steps: what each turn knows, and what is left behind it. Assumes nothing.
-use mathlib.Core.Path.{◌≡◌, refl, sym, ap, subst, ◌∙◌}
-use Prim.Native.Nat.{ℕ, suc, ◌+◌, ◌-◌, ◌≤◌, ◌<◌}
+use mathlib.Core.Path.{◌≡◌, refl, sym, ap, ◌∙◌}
+use Prim.Native.Nat.{ℕ, suc, ◌+◌, ◌-◌, ◌≤◌, ◌<◌, ◌^◌}
 use native.Mathlib.Omega.{arith}
 use mathlib.Core.List.{List, [], ◌∷◌, ◌++◌, map, append_assoc, append-nil, map-append}
 use lib.ListN.{length, drop, set, length-append}
@@ -9,7 +9,6 @@ use Rattle.refusal.specs.Base.{Answer, good, refused, ◌>>=◌}
 use Rattle.refusal.specs.Told.{refusal}
 use Rattle.refusal.specs.declared.Refusal.{Refusal}
 use Rattle.item.specs.Tree.{Yaml, Items, Ranged}
-use Rattle.item.specs.Encode.{head, encode}
 use Rattle.lines.specs.Lines.{Line}
 use Rattle.meaning.specs.Meaning.{Step}
 use Rattle.meaning.specs.Record.{joined, step_item, steps_item}
@@ -18,14 +17,17 @@ use Rattle.meaning.proofs.Joined.{joined-last}
 use Rattle.step_lines.specs.StepLines.{dashes_at, tail_lines}
 use Rattle.step_lines.specs.declared.StepLine.{StepLine}
 use Rattle.step_lines.specs.Contract.{Next}
-use Rattle.entries.specs.Entries.{Stands, Holds}
-use Rattle.entries.proofs.Walking.{no-more-items, ItemTurn}
-use Rattle.nodes.specs.Contract.{Stored, AgreesPart}
-use Rattle.nodes.specs.declared.Part.{Part}
-use Rattle.nodes.specs.declared.Part.TheVariants.{Done, Refused}
-use Rattle.nodes.proofs.Storing.{stored-then, stored-nothing, stored_is, stored-item}
+use Rattle.entries.specs.Entries.{Holds}
+use Rattle.entries.proofs.Walking.{no-more-items}
+use Rattle.item.specs.declared.Item.{Item}
+use Rattle.item.proofs.Runs.{sets-append}
+use Rattle.nodes.specs.declared.output.RecordWriter.{RecordWriter}
+use Rattle.nodes.specs.Writing.{Writes, Opens, Closes}
+use Rattle.nodes.specs.Contract.{IsItem, WrotePart}
+use Rattle.nodes.proofs.Items.{ItemTurn}
+use Rattle.nodes.proofs.Writing.{writes_is, writes_more, writes_none, writes_item}
 use Rattle.scenario.specs.Scenario.{lines_for}
-use Rattle.scenario.specs.Contract.{WroteSteps}
+use Rattle.scenario.specs.Contract.{Numbered, WroteSteps}
 
 -- ---- what a step adds
 
@@ -37,19 +39,34 @@ one_more (refused k l n) got s = refl
 joined-more : (got : List Step) (s : Step) → joined (map step_item got) ++ step_item s ≡ joined (map step_item (got ++ (s ∷ [])))
 joined-more got s = sym (ap joined (map-append step_item got (s ∷ [])) ∙ joined-last (map step_item got) (step_item s))
 
-placed : {old new : List ℕ} {i n : ℕ} → (i < length old → new ≡ set old i n) → length new ≡ length old → Stored old new i (n ∷ []) (i + 1)
-placed {old} {new} {i} {n} h k = record { ends = omega arith; stored = λ m. h (omega arith); kept = k }
+numbered-nothing : {places : List ℕ} → Numbered places places [] 0
+numbered-nothing = record { many = refl; stored = λ h. refl; kept = refl }
+
+numbered_is : {old new a b : List ℕ} {count : ℕ} → a ≡ b → Numbered old new a count → Numbered old new b count
+numbered_is e k = rw (← e) k
+
+one-more-number : {places filled lines told : List ℕ} {count : ℕ} (n : ℕ) → Numbered places filled told count → (count < length filled → lines ≡ set filled count n) → length lines ≡ length filled
+    → Numbered places lines (told ++ (n ∷ [])) (count + 1)
+one-more-number {places} {filled} {lines} {told} {count} n k put kept = record {
+  many = omega (arith, k.many, length-append told (n ∷ []));
+  stored = λ h.
+      put (omega (arith, k.kept))
+      ∙ ap (λ (l : List ℕ). set l count n) (k.stored (omega arith))
+      ∙ ap (λ (m : ℕ). set (sets places 0 told) m n) (let e : count ≡ 0 + length told = omega (arith, k.many) in e)
+      ∙ sets-append told (n ∷ []) places 0;
+  kept = kept ∙ k.kept;
+}
 
 -- ---- the steps so far, and those that are left
 
-pub record Walked (s : List ℕ) (to i : ℕ) (ys : Items) (first dashes old new : List ℕ) (start p : ℕ) (places filled : List ℕ) (steps : ℕ) : Type 0 where
+pub record Walked (s : List ℕ) (to at : ℕ) (ys : Items) (first dashes : List ℕ) (old new : RecordWriter) (places filled : List ℕ) (steps : ℕ) : Type 0 where
   pub got : List Step
   pub told : List ℕ
   pub rest : Items
-  pub holds : Holds s i to rest
+  pub holds : Holds s at to rest
   pub same : steps_from 1 first ys ≡ (steps_from (suc steps) dashes rest >>= λ ss. good (got ++ ss))
-  pub stored : Stored old new start (joined (map step_item got)) p
-  pub written : Stored places filled 0 told steps
+  pub writes : Writes old new (joined (map step_item got))
+  pub numbered : Numbered places filled told steps
   pub lined : (ss : List Step) → lines_for (got ++ ss) first ≡ told ++ lines_for ss dashes
   pub many : steps ≡ length got
 
@@ -58,31 +75,30 @@ unfolding ◌>>=◌
 itself (good ss) = refl
 itself (refused k l n) = refl
 
-pub walk_start : {s out places first dashes : List ℕ} {to i start : ℕ} (ys : Items) → first ≡ dashes → Holds s i to ys → Walked s to i ys first dashes out out start start places places 0
+pub walk_start : {s places first dashes : List ℕ} {to at : ℕ} {w : RecordWriter} (ys : Items) → w.end ≤ 2 ^ 64 - 1 → first ≡ dashes → Holds s at to ys → Walked s to at ys first dashes w w places places 0
 unfolding joined
-walk_start {first = first} ys e h = record {
+walk_start {first = first} ys small e h = record {
   got = [];
   told = [];
   rest = ys;
   holds = h;
   same = itself (steps_from 1 first ys) ∙ ap (λ (l : List ℕ). steps_from 1 l ys >>= λ ss. good ss) e;
-  stored = stored-nothing refl;
-  written = stored-nothing refl;
+  writes = writes_none small;
+  numbered = numbered-nothing;
   lined = λ ss. ap (lines_for ss) e;
   many = refl;
 }
 
-module _ {s first old mid places filled : List ℕ} {to i start p steps count indent d next : ℕ} {ys : Items} {ls : List Line} {l : StepLine}
-    (k : Walked s to i ys first (dashes_at indent (drop d ls)) old mid start p places filled steps) (n : Next ls count indent d l)
-    (t : ItemTurn s i to k.rest next) where
+module _ {s first places filled : List ℕ} {old mid : RecordWriter} {to at steps count indent d : ℕ} {i : Item} {ys : Items} {ls : List Line} {l : StepLine}
+    (k : Walked s to at ys first (dashes_at indent (drop d ls)) old mid places filled steps) (n : Next ls count indent d l) (t : ItemTurn s at to k.rest i) where
   abbrev dashes : List ℕ
   dashes = dashes_at indent (drop d ls)
 
   abbrev y : Yaml
-  y = t.item.y
+  y = t.first.y
 
   abbrev others : Items
-  others = t.item.others
+  others = t.first.others
 
   -- what the rest of the steps makes of this one
   abbrev behind : Answer Step → Answer (List Step)
@@ -92,25 +108,20 @@ module _ {s first old mid places filled : List ℕ} {to i start p steps count in
   unfolding steps_from
   turn =
       k.same
-      ∙ ap (λ (zs : Items). steps_from (suc steps) dashes zs >>= λ ss. good (k.got ++ ss)) t.item.is
+      ∙ ap (λ (zs : Items). steps_from (suc steps) dashes zs >>= λ ss. good (k.got ++ ss)) t.first.is
       ∙ ap (λ (h : ℕ). behind (step_at h (suc steps) y)) (sym n.is)
       ∙ ap (λ (h : ℕ). behind (step_at l.line h y)) (omega arith)
 
-  -- of what `step_at` promises, what is so of this step
-  this : (new : List ℕ) {r r' : Part} → r ≡ r' → ((y : Yaml) → Ranged y → Stands s i (encode y) → AgreesPart (step_at l.line (steps + 1) y) step_item mid new p r) → AgreesPart (step_at l.line (steps + 1) y) step_item mid new p r'
-  this new q promise = subst (AgreesPart (step_at l.line (steps + 1) y) step_item mid new p) q (promise y t.item.ranged t.item.value)
-
-  pub walk_refused : (new : List ℕ) {z : Refusal} {r : Part} → r ≡ Refused z → ((y : Yaml) → Ranged y → Stands s i (encode y) → AgreesPart (step_at l.line (steps + 1) y) step_item mid new p r) → steps_from 1 first ys ≡ refusal z
+  pub walk_refused : (z : Refusal) → ((y : Yaml) → Ranged y → IsItem s y i → step_at l.line (steps + 1) y ≡ refusal z) → steps_from 1 first ys ≡ refusal z
   unfolding ◌>>=◌
-  walk_refused new q promise = turn ∙ ap behind (this new q promise)
+  walk_refused z promise = turn ∙ ap behind (promise y t.first.ranged t.item_is)
 
-  pub walk-on : {new lines : List ℕ} {q : ℕ} {r : Part} → r ≡ Done q
-      → ((y : Yaml) → Ranged y → Stands s i (encode y) → AgreesPart (step_at l.line (steps + 1) y) step_item mid new p r)
+  pub walk-on : {new : RecordWriter} {lines : List ℕ} → ((y : Yaml) → Ranged y → IsItem s y i → WrotePart (step_at l.line (steps + 1) y) step_item mid new)
       → (steps < length filled → lines ≡ set filled steps l.line) → length lines ≡ length filled
-      → Walked s to next ys first (dashes_at indent (drop l.next ls)) old new start q places lines (steps + 1)
+      → Walked s to i.to ys first (dashes_at indent (drop l.next ls)) old new places lines (steps + 1)
   unfolding ◌>>=◌ lines_for
-  walk-on {new} q promise put kept =
-      let w = this new q promise in
+  walk-on promise put kept =
+      let w = promise y t.first.ranged t.item_is in
       record {
         got = k.got ++ (w.read ∷ []);
         told = k.told ++ (l.line ∷ []);
@@ -122,8 +133,8 @@ module _ {s first old mid places filled : List ℕ} {to i start p steps count in
             ∙ one_more (steps_from (suc (suc steps)) (tail_lines dashes) others) k.got w.read
             ∙ ap (λ (z : List ℕ). steps_from (suc (suc steps)) z others >>= λ ss. good ((k.got ++ (w.read ∷ [])) ++ ss)) (sym n.others)
             ∙ ap (λ (j : ℕ). steps_from (suc j) (dashes_at indent (drop l.next ls)) others >>= λ ss. good ((k.got ++ (w.read ∷ [])) ++ ss)) (let u : suc steps ≡ steps + 1 = omega arith in u);
-        stored = stored_is (joined-more k.got w.read) (stored-then (joined (map step_item k.got)) (step_item w.read) k.stored w.stored);
-        written = stored-then k.told (l.line ∷ []) k.written (placed put kept);
+        writes = writes_is (joined-more k.got w.read) (writes_more k.writes w.writes);
+        numbered = one-more-number l.line k.numbered put kept;
         lined = λ ss.
             ap (λ (z : List Step). lines_for z first) (append_assoc k.got (w.read ∷ []) ss)
             ∙ k.lined (w.read ∷ ss)
@@ -133,14 +144,14 @@ module _ {s first old mid places filled : List ℕ} {to i start p steps count in
         many = omega (arith, k.many, length-append k.got (w.read ∷ []));
       }
 
-pub walk-done : {s first dashes old mid new places filled : List ℕ} {to i at p steps : ℕ} {ys : Items} → to ≤ i
-    → Walked s to i ys first dashes old mid (at + 6) p places filled steps → (p ≤ length mid → new ≡ sets mid at (head 18 (p - at - 6)))
-    → length new ≡ length mid → WroteSteps (steps_from 1 first ys) steps_item (λ ss. ss) first old new at places filled p steps
+pub walk-done : {s first dashes places filled : List ℕ} {a old mid new : RecordWriter} {header to at steps : ℕ} {ys : Items} → to ≤ at → Opens a old header
+    → Walked s to at ys first dashes old mid places filled steps → Closes mid new header 18
+    → WroteSteps (steps_from 1 first ys) steps_item (λ ss. ss) first a new places filled steps
 unfolding steps_from steps_item lines_for ◌>>=◌
-walk-done {first = first} {dashes = dashes} {steps = steps} m k g l = record {
+walk-done {first = first} {dashes = dashes} {steps = steps} m o k c = record {
   read = k.got;
   is = k.same ∙ ap (λ (zs : Items). steps_from (suc steps) dashes zs >>= λ ss. good (k.got ++ ss)) (no-more-items k.rest m k.holds) ∙ ap good (append-nil k.got);
-  stored = stored-item 18 (joined (map step_item k.got)) k.stored g l;
-  lined = stored_is (sym (ap (λ (z : List Step). lines_for z first) (sym (append-nil k.got)) ∙ k.lined [] ∙ append-nil k.told)) k.written;
+  writes = writes_item o k.writes c;
+  lined = numbered_is (sym (ap (λ (z : List Step). lines_for z first) (sym (append-nil k.got)) ∙ k.lined [] ∙ append-nil k.told)) k.numbered;
   many = k.many;
 }

@@ -16,16 +16,16 @@ use Rattle.lines.specs.Lines.{Line, significant_lines}
 use Rattle.step_lines.specs.StepLines.{step_lines}
 use Rattle.entries.specs.Entries.{Stands}
 use Rattle.meaning.specs.Meanings.{meaning_of}
-use Rattle.meaning.specs.Meaning.{Meaning}
+use Rattle.meaning.specs.Meaning.{Meaning, Step}
 use Rattle.meaning.specs.Record.{record_of}
 use Rattle.tree.specs.Tree.{admitted, tree_of, tree}
 use Rattle.tree.specs.Contract.{WroteTree}
-use Rattle.scenario.specs.declared.Steps.{Steps}
-use Rattle.scenario.specs.declared.Steps.TheVariants.{Done, Refused}
-use Rattle.scenario.specs.declared.ScenarioAnswer.{ScenarioAnswer}
+use Rattle.std.specs.Prelude.{Result}
+use Rattle.nodes.specs.declared.output.RecordWriter.{RecordWriter}
+use Rattle.scenario.specs.declared.Sizes.{Sizes}
 use Rattle.scenario.specs.declared.ScenarioAnswer.TheVariants.{Read, Refused as Unread}
 use Rattle.scenario.specs.Scenario.{Reading, lines_for, reading_of, scenario, output, tree_bytes, record_bytes, step_numbers, answer_of, sizes_of}
-use Rattle.scenario.specs.Contract.{WroteSteps, AgreesSteps, WroteScenario, AgreesScenario}
+use Rattle.scenario.specs.Contract.{WroteSteps, WroteScenario, AgreesScenario}
 
 -- a tree at the front stands there
 pub tree-stands : (old new : List ℕ) (y : Yaml) → new ≡ sets old 0 (encode y) → length (encode y) ≤ length old → Stands new 0 (encode y)
@@ -37,14 +37,6 @@ tree-stands old new y e h =
       here = w;
       within = omega (arith, ap length w ∙ length-append (encode y) (drop (0 + length (encode y)) old), length-drop (0 + length (encode y)) old);
     }
-
--- what the answer on the record says in each arm of a `match` on it
-module _ (x : Answer Meaning) (lines old new places filled : List ℕ) (r : Steps) (w : AgreesSteps x record_of (λ m. m.steps) lines old new 0 places filled r) where
-  pub record-written : (e n : ℕ) → r ≡ Done e n → WroteSteps x record_of (λ m. m.steps) lines old new 0 places filled e n
-  record-written e n q = subst (AgreesSteps x record_of (λ m. m.steps) lines old new 0 places filled) q w
-
-  pub record-stopped : (z : Refusal) → r ≡ Refused z → x ≡ refusal z
-  record-stopped z q = subst (AgreesSteps x record_of (λ m. m.steps) lines old new 0 places filled) q w
 
 -- a refusal of one thing is one of another
 again : {A B : Type 0} (n l s k i t : ℕ) → ◌≡◌ {A = Answer A} (refused n l s) (refused k i t) → ◌≡◌ {A = Answer B} (refused n l s) (refused k i t)
@@ -126,28 +118,40 @@ module _ (work room places : ℕ) (text : List ℕ) where
             let j : min room (2 ^ 20) ≡ room = omega arith in
             rw (made-is, k, le-leb (length m.steps) places h, j, le-leb (length (record_of m)) room q)
 
+-- a record written from the front, as long as the writer counted
+record-long : {A : Type 0} {answer : Answer A} {write : A → List ℕ} {steps : A → List Step} {ls places filled : List ℕ} {old new : RecordWriter} {count : ℕ} (v : WroteSteps answer write steps ls old new places filled count)
+    → old.end ≡ 0 → new.end ≤ length old.out.now → new.end ≡ length (write v.read)
+record-long {old = old} v z h = omega (arith, v.writes.ends, old.counted)
+
 -- a reading whose outputs all fit
-pub wrote-all : (text work tree' room bytes places lines : List ℕ) (ls : List Line) (t e n : ℕ) (answer : Answer Yaml) (w : WroteTree answer work tree' t)
-    → answer ≡ tree (length work) text → significant_lines text ≡ good ls → length room ≤ 2 ^ 20 → length places ≤ 2 ^ 18
-    → (v : WroteSteps (meaning_of (step_lines ls) w.tree) record_of (λ m. m.steps) (step_lines ls) room bytes 0 places lines e n) → n ≤ length places → e ≤ length room
-    → WroteScenario (scenario (length work) (length room) (length places) text) work tree' room bytes places lines t e (4 * n) n
-wrote-all text work tree' room bytes places lines ls t e n answer w a l r p v h k =
-    let size : e ≡ length (record_of v.read) = omega (arith, v.stored.ends) in
+wrote-whole : (text work tree' places lines : List ℕ) (old new : RecordWriter) (ls : List Line) (t n : ℕ) (answer : Answer Yaml) (w : WroteTree answer work tree' t)
+    → answer ≡ tree (length work) text → significant_lines text ≡ good ls → length places ≤ 2 ^ 18 → old.end ≡ 0
+    → (v : WroteSteps (meaning_of (step_lines ls) w.tree) record_of (λ m. m.steps) (step_lines ls) old new places lines n) → n ≤ length places → new.end ≤ length old.out.now
+    → WroteScenario (scenario (length work) (length old.out.now) (length places) text) work tree' old.out.now new.out.now places lines t new.end (4 * n) n
+wrote-whole text work tree' places lines old new ls t n answer w a l p z v h k =
+    let size : new.end ≡ length (record_of v.read) = record-long v z k in
     record {
       read = record { tree = w.tree; meaning = v.read; lines = lines_for v.read.steps (step_lines ls) };
-      is = scenario-read (length work) (length room) (length places) text ls w.tree l (sym a ∙ w.is) v.read v.is p (omega (arith, v.many)) r (omega arith);
+      is = scenario-read (length work) (length old.out.now) (length places) text ls w.tree l (sym a ∙ w.is) v.read v.is p (omega (arith, v.many)) old.counted (omega arith);
       tree_stored = w.stored;
       tree_size = w.size;
       tree_fits = w.fits;
-      record_stored = v.stored.stored k;
+      record_stored = v.writes.stored (omega (arith, size, z)) ∙ ap (λ (i : ℕ). sets old.out.now i (record_of v.read)) z;
       record_size = size;
       record_fits = k;
       lines_stored = v.lined.stored h;
-      lines_many = omega (arith, v.lined.ends);
+      lines_many = v.lined.many;
       steps_many = v.many;
       lines_fit = h;
       lines_size = refl;
     }
+
+pub wrote-all : (text work tree' room bytes places lines : List ℕ) (old new : RecordWriter) (ls : List Line) (t n : ℕ) (answer : Answer Yaml) (w : WroteTree answer work tree' t)
+    → answer ≡ tree (length work) text → significant_lines text ≡ good ls → length places ≤ 2 ^ 18 → old.end ≡ 0 → old.out.now ≡ room → new.out.now ≡ bytes
+    → (v : WroteSteps (meaning_of (step_lines ls) w.tree) record_of (λ m. m.steps) (step_lines ls) old new places lines n) → n ≤ length places → new.end ≤ length room
+    → WroteScenario (scenario (length work) (length room) (length places) text) work tree' room bytes places lines t new.end (4 * n) n
+wrote-all text work tree' room bytes places lines old new ls t n answer w a l p z o b v h k =
+    rw (← o, ← b) (wrote-whole text work tree' places lines old new ls t n answer w a l p z v h (omega (arith, k, ap length o)))
 
 -- ---- the lent outputs, of which the first places count
 
@@ -162,7 +166,7 @@ same-lent text work room places w r p a b c =
     rw (i, j, k)
 
 pub lent_is : (text work tree' room bytes places lines : List ℕ) (w r p : ℕ) → w ≡ min (length work) (2 ^ 20) → r ≡ min (length room) (2 ^ 20) → p ≡ min (length places) (2 ^ 18)
-    → (a : ScenarioAnswer) → AgreesScenario (scenario (length (take w work)) (length (take r room)) (length (take p places)) text) (take w work) tree' (take r room) bytes (take p places) lines a
+    → (a : Result Sizes Refusal) → AgreesScenario (scenario (length (take w work)) (length (take r room)) (length (take p places)) text) (take w work) tree' (take r room) bytes (take p places) lines a
     → AgreesScenario (scenario (length work) (length room) (length places) text) (take w work) tree' (take r room) bytes (take p places) lines a
 lent_is text work tree' room bytes places lines w r p i j k a v =
     subst (λ (x : Answer Reading). AgreesScenario x (take w work) tree' (take r room) bytes (take p places) lines a) (same-lent text work room places w r p i j k) v
@@ -181,37 +185,32 @@ output-is old b n h f =
 pub lent_length : (old new : List ℕ) (n : ℕ) → n ≤ length old → length new ≡ length (take n old) → length (new ++ drop n old) ≡ length old
 lent_length old new n h k = length-append new (drop n old) ∙ omega (arith, length-take-le n old h, length-drop n old)
 
-module _ (x : Answer Reading) (work tree' room bytes places lines : List ℕ) (w r p : ℕ) (hw : w ≤ length work) (hr : r ≤ length room) (hp : p ≤ length places)
-    (a : ScenarioAnswer) (v : AgreesScenario x (take w work) tree' (take r room) bytes (take p places) lines a) where
-  pub told_is : answer_of a ≡ sizes_of x
+module _ (x : Answer Reading) (work tree' room bytes places lines : List ℕ) (w r p : ℕ) (hw : w ≤ length work) (hr : r ≤ length room) (hp : p ≤ length places) {t e l n : ℕ}
+    (got : WroteScenario x (take w work) tree' (take r room) bytes (take p places) lines t e l n) where
+  pub read_told : answer_of (Read t e l n) ≡ sizes_of x
   unfolding sizes_of
-  told_is = go a v
-    where
-      go : (c : ScenarioAnswer) → AgreesScenario x (take w work) tree' (take r room) bytes (take p places) lines c → answer_of c ≡ sizes_of x
-      go (Read t e l n) q = rw (q.is, q.lines_size, q.tree_size, q.record_size)
-          (ap (λ (k : ℕ). good (length (encode q.read.tree), length (record_of q.read.meaning), 4 * k, n)) q.lines_many
-          ∙ ap (λ (k : ℕ). good (length (encode q.read.tree), length (record_of q.read.meaning), 4 * length q.read.lines, k)) q.steps_many)
-      go (Unread z) q = rw q
+  read_told = rw (got.is, got.lines_size, got.tree_size, got.record_size)
+      (ap (λ (k : ℕ). good (length (encode got.read.tree), length (record_of got.read.meaning), 4 * k, n)) got.lines_many
+      ∙ ap (λ (k : ℕ). good (length (encode got.read.tree), length (record_of got.read.meaning), 4 * length got.read.lines, k)) got.steps_many)
 
-  module _ (t e l n : ℕ) (q : a ≡ Read t e l n) where
-    got : WroteScenario x (take w work) tree' (take r room) bytes (take p places) lines t e l n
-    got = subst (AgreesScenario x (take w work) tree' (take r room) bytes (take p places) lines) q v
+  pub tree-out : tree' ++ drop w work ≡ output tree_bytes x work
+  unfolding output tree_bytes
+  tree-out = rw got.is (ap (λ (b : List ℕ). b ++ drop w work) got.tree_stored ∙ output-is work (encode got.read.tree) w hw (omega (arith, got.tree_size, got.tree_fits, length-take-le w work hw)))
 
-    pub tree-out : tree' ++ drop w work ≡ output tree_bytes x work
-    unfolding output tree_bytes
-    tree-out = rw got.is (ap (λ (b : List ℕ). b ++ drop w work) got.tree_stored ∙ output-is work (encode got.read.tree) w hw (omega (arith, got.tree_size, got.tree_fits, length-take-le w work hw)))
+  pub record-out : bytes ++ drop r room ≡ output record_bytes x room
+  unfolding output record_bytes
+  record-out = rw got.is (ap (λ (b : List ℕ). b ++ drop r room) got.record_stored ∙ output-is room (record_of got.read.meaning) r hr (omega (arith, got.record_size, got.record_fits, length-take-le r room hr)))
 
-    pub record-out : bytes ++ drop r room ≡ output record_bytes x room
-    unfolding output record_bytes
-    record-out = rw got.is (ap (λ (b : List ℕ). b ++ drop r room) got.record_stored ∙ output-is room (record_of got.read.meaning) r hr (omega (arith, got.record_size, got.record_fits, length-take-le r room hr)))
+  pub lines-out : lines ++ drop p places ≡ output step_numbers x places
+  unfolding output step_numbers
+  lines-out = rw got.is (ap (λ (b : List ℕ). b ++ drop p places) got.lines_stored ∙ output-is places got.read.lines p hp (omega (arith, got.lines_many, got.lines_fit, length-take-le p places hp)))
 
-    pub lines-out : lines ++ drop p places ≡ output step_numbers x places
-    unfolding output step_numbers
-    lines-out = rw got.is (ap (λ (b : List ℕ). b ++ drop p places) got.lines_stored ∙ output-is places got.read.lines p hp (omega (arith, got.lines_many, got.lines_fit, length-take-le p places hp)))
+module _ (x : Answer Reading) (z : Refusal) (s : x ≡ refusal z) where
+  pub refused_told : answer_of (Unread z) ≡ sizes_of x
+  unfolding sizes_of
+  refused_told = rw s
 
-  pub zeros-out : (z : Refusal) → a ≡ Unread z → (write : Reading → List ℕ) (old new : List ℕ) (n : ℕ) → n ≤ length old → length new ≡ length (take n old)
+  pub zeros-out : (write : Reading → List ℕ) (old new : List ℕ) (n : ℕ) → n ≤ length old → length new ≡ length (take n old)
       → replicate (length (new ++ drop n old)) 0 ≡ output write x old
   unfolding output
-  zeros-out z q write old new n h k =
-      let s : x ≡ refusal z = subst (AgreesScenario x (take w work) tree' (take r room) bytes (take p places) lines) q v in
-      rw (s, lent_length old new n h k)
+  zeros-out write old new n h k = rw (s, lent_length old new n h k)

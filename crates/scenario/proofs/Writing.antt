@@ -1,17 +1,15 @@
 -- The record of a meaning: the fields before the steps, the steps, the header. Assumes nothing.
 use mathlib.Core.Path.{◌≡◌}
-use Prim.Native.Nat.{ℕ, ◌-◌, ◌≤◌}
+use Prim.Native.Nat.{ℕ}
 use mathlib.Core.List.{List, ◌++◌, append_assoc, append-nil}
-use lib.ListN.{length}
-use lib.Seq.{sets}
 use Rattle.refusal.specs.Base.{good, refused, ◌>>=◌}
 use Rattle.item.specs.Tree.{Yaml}
-use Rattle.item.specs.Encode.{head}
 use Rattle.meaning.specs.Meaning.{Step}
 use Rattle.meaning.specs.Record.{joined, steps_item, fields, record_of}
 use Rattle.meaning.specs.Meanings.{steps_from, Top, top_of, with_steps, meaning_of}
-use Rattle.nodes.specs.Contract.{Stored}
-use Rattle.nodes.proofs.Storing.{stored-then, stored_is, stored-item}
+use Rattle.nodes.specs.declared.output.RecordWriter.{RecordWriter}
+use Rattle.nodes.specs.Writing.{Writes, Opens, Closes}
+use Rattle.nodes.proofs.Writing.{writes_is, writes_more, writes_item}
 use Rattle.top.specs.Contract.{top_fields}
 use Rattle.scenario.specs.Contract.{WroteSteps}
 
@@ -30,15 +28,14 @@ module _ (lines : List ℕ) (y : Yaml) {t : Top} (e : top_of y ≡ good t) where
   unfolding meaning_of ◌>>=◌
   steps-refused h = rw (e, h)
 
-  pub record-wrote : {old one two new places filled : List ℕ} {at end count : ℕ} → Stored old one 6 (joined (top_fields t)) at
-      → WroteSteps (steps_from 1 lines t.steps) steps_item (λ ss. ss) lines one two at places filled end count
-      → (end ≤ length two → new ≡ sets two 0 (head 16 (end - 0 - 6))) → length new ≡ length two
-      → WroteSteps (meaning_of lines y) record_of (λ m. m.steps) lines old new 0 places filled end count
+  pub record-wrote : {o a b c d : RecordWriter} {header : ℕ} {places filled : List ℕ} {count : ℕ} → Opens o a header → Writes a b (joined (top_fields t))
+      → WroteSteps (steps_from 1 lines t.steps) steps_item (λ ss. ss) lines b c places filled count → Closes c d header 16
+      → WroteSteps (meaning_of lines y) record_of (λ m. m.steps) lines o d places filled count
   unfolding meaning_of ◌>>=◌ with_steps record_of
-  record-wrote a w c k = record {
+  record-wrote opened fields w closed = record {
     read = with_steps t w.read;
     is = rw (e, w.is);
-    stored = stored-item 16 _ (stored_is (fields-joined t w.read) (stored-then _ _ a w.stored)) c k;
+    writes = writes_item opened (writes_is (fields-joined t w.read) (writes_more fields w.writes)) closed;
     lined = w.lined;
     many = w.many;
   }

@@ -1,6 +1,8 @@
 -- Rounds of strokes: whole ones, the last one, and that the definition's are as many whole ones as the supply allows and one with the rest.
 -- Assumes nothing.
-use Rattle.std.specs.Prelude.{if◌then◌else◌}
+use Rattle.std.specs.Prelude.{if◌then◌else◌, get_or, Option, None, Some, IfSome, Contains, All}
+use Rattle.std.specs.List.{sum_by}
+use Rattle.std.proofs.lemmas.List.Recursion.{is_sum_by, max_bounds, max_least}
 use mathlib.Core.Path.{◌≡◌, refl, sym, ap, ◌∙◌}
 use Prim.Native.Nat.{ℕ, zero, suc, ◌+◌, ◌*◌, ◌-◌, ◌/◌, ◌≤◌, ◌<◌, min}
 use native.Mathlib.Nat.{add-zero, mul-suc, div-mul-le_self}
@@ -9,21 +11,17 @@ use mathlib.Core.Logic.{◌⊎◌, inl, inr, ⊎_elim}
 use mathlib.Core.List.{List, [], ◌∷◌}
 use mathlib.Core.Bool.{Bool, true, false, ◌&&◌}
 use lib.Dec.{ltb}
-use lib.ListN.{length, replicate}
+use lib.ListN.{length}
 use borrow.Author.Tests.{ltb-true, ltb-false, le-leb, lt-leb}
-use Rattle.refusal.specs.Base.{Answer, good, refused, ◌>>=◌, ◌>>◌, ensure}
-use Rattle.refusal.specs.Told.{refusal}
-use Rattle.refusal.specs.declared.Refusal.{Refusal}
+use Rattle.refusal.specs.Base.{good, refused, ◌>>=◌, ◌>>◌, ensure}
 use Rattle.refusal.proofs.Tools.{split}
-use Rattle.share.specs.Share.{Drum, gots, sum, up_to, first_shares, stroke, round, rounds, shares, eight, greatest, share, numbers_of, answer_of}
+use Rattle.share.specs.Share.{Drum, gots, sum, up_to, first_shares, stroke, round, rounds, shares, eight, greatest, share}
 use Rattle.share.specs.Contract.{Whole}
-use Rattle.share.specs.declared.Shares.{Shares}
-use Rattle.share.specs.declared.ShareAnswer.TheVariants.{Refused}
 
 -- ---- one stroke, as arithmetic
-pub stroke-is : (rest : ℕ) (d : Drum) → stroke rest d ≡ min rest (min 1 (d.wish - d.got))
+pub stroke_is : (rest : ℕ) (d : Drum) → stroke rest d ≡ min rest (min 1 (d.wish - d.got))
 unfolding stroke
-stroke-is rest d = go (ltb 0 rest) refl (ltb d.got d.wish) refl
+stroke_is rest d = go (ltb 0 rest) refl (ltb d.got d.wish) refl
   where
     go : (x : Bool) → ltb 0 rest ≡ x → (y : Bool) → ltb d.got d.wish ≡ y → (if x && y then 1 else 0) ≡ min rest (min 1 (d.wish - d.got))
     go true p true q = omega (arith, ltb-true 0 rest p, ltb-true d.got d.wish q)
@@ -33,15 +31,19 @@ stroke-is rest d = go (ltb 0 rest) refl (ltb d.got d.wish) refl
 
 -- ---- so many whole rounds from nothing
 
+pub sum_up_to : (n : ℕ) (ws : List ℕ) → sum (gots (up_to n ws)) ≡ sum_by (λ w. min w n) ws
+unfolding up_to gots sum
+sum_up_to n ws = is_sum_by (λ xs. sum (gots (up_to n xs))) (λ w. min w n) refl (λ _ _. refl) ws
+
 pub up_to-more : (s t : ℕ) (ws : List ℕ) → s ≤ t → sum (gots (up_to s ws)) ≤ sum (gots (up_to t ws))
 unfolding up_to gots sum
 up_to-more s t [] h = omega arith
 up_to-more s t (w ∷ ws) h = omega (arith, up_to-more s t ws h)
 
-pub up_to-none : (ws : List ℕ) → sum (gots (up_to 0 ws)) ≡ 0
+pub up_to_none : (ws : List ℕ) → sum (gots (up_to 0 ws)) ≡ 0
 unfolding up_to gots sum
-up_to-none [] = refl
-up_to-none (w ∷ ws) = omega (arith, up_to-none ws)
+up_to_none [] = refl
+up_to_none (w ∷ ws) = omega (arith, up_to_none ws)
 
 -- they cost at most as many strokes for each drum
 pub up_to-cost : (t : ℕ) (ws : List ℕ) → sum (gots (up_to t ws)) ≤ t * length ws
@@ -78,7 +80,7 @@ record Served (rest s before after : ℕ) : Type 0 where
 
 served : (rest w t : ℕ) → Served rest (stroke rest (record { wish = w; got = min w t })) (min w t) (min w (suc t))
 served rest w t =
-    let s = stroke-is rest (record { wish = w; got = min w t }) in
+    let s = stroke_is rest (record { wish = w; got = min w t }) in
     record {
       within = omega arith;
       wanted = omega arith;
@@ -115,7 +117,7 @@ pub round-none : (ds : List Drum) → round 0 ds ≡ ds
 unfolding round
 round-none [] = refl
 round-none (d ∷ ds) =
-    let s : stroke 0 d ≡ 0 = omega (arith, stroke-is 0 d) in
+    let s : stroke 0 d ≡ 0 = omega (arith, stroke_is 0 d) in
     rw s (rw (add-zero d.got) (ap (λ (es : List Drum). d ∷ es) (round-none ds)))
 
 pub round-full : (rest : ℕ) (ws : List ℕ) → round rest (up_to (greatest ws) ws) ≡ up_to (greatest ws) ws
@@ -189,9 +191,9 @@ unfolding share ensure ◌>>◌ ◌>>=◌
 opened = tt
 
 module _ (ws : List ℕ) (allowed : ℕ) where
-  pub no-drum : length ws < 1 → share ws allowed ≡ refused 61 0 0
+  pub no_drum : length ws < 1 → share ws allowed ≡ refused 61 0 0
   unfolding opened
-  no-drum h = rw (lt-leb 1 (length ws) h)
+  no_drum h = rw (lt-leb 1 (length ws) h)
 
   module _ (some : 1 ≤ length ws) where
     pub too_many : 8 < length ws → share ws allowed ≡ refused 61 0 0
@@ -204,15 +206,24 @@ module _ (ws : List ℕ) (allowed : ℕ) where
       too_much h = rw (le-leb 1 (length ws) some, le-leb (length ws) 8 few, lt-leb (greatest ws) 255 h)
 
       module _ (ok : greatest ws ≤ 255) where
-        pub too-little : allowed < length ws → share ws allowed ≡ refused 62 0 0
+        pub too_little : allowed < length ws → share ws allowed ≡ refused 62 0 0
         unfolding opened
-        too-little h = rw (le-leb 1 (length ws) some, le-leb (length ws) 8 few, le-leb (greatest ws) 255 ok, lt-leb (length ws) allowed h)
+        too_little h = rw (le-leb 1 (length ws) some, le-leb (length ws) 8 few, le-leb (greatest ws) 255 ok, lt-leb (length ws) allowed h)
 
         pub shared : length ws ≤ allowed → share ws allowed ≡ good (eight (shares ws allowed))
         unfolding opened
         shared h = rw (le-leb 1 (length ws) some, le-leb (length ws) 8 few, le-leb (greatest ws) 255 ok, le-leb (length ws) allowed h)
 
--- a refusal with zeros
-pub refuses : {x : Answer (List ℕ)} (r : Shares) (e : Refusal) → (r.answer ≡ Refused e) × (r.strokes ≡ replicate 8 0) → x ≡ refusal e → (answer_of r.answer r.strokes ≡ x) × (r.strokes ≡ numbers_of x)
-unfolding numbers_of
-refuses r e h p = (rw (h.0, p), rw p h.1)
+-- no wish is above the greatest
+pub greatest_bounds : (ws : List ℕ) (i d : ℕ) → i < length ws → get_or ws i d ≤ greatest ws
+unfolding greatest
+greatest_bounds ws i d h = max_bounds greatest (λ w. w) refl (λ _ _. refl) ws i d h
+
+-- the wish that none is above
+pub greatest_found : (ws : List ℕ) (r : Option ℕ) → IfSome r (Contains ws) → IfSome r (λ m. All (λ w. w ≤ m) ws) → IfSome r (λ m. m ≡ greatest ws)
+unfolding greatest
+greatest_found ws None c a = tt
+greatest_found ws (Some m) c a =
+    omega (arith, greatest_bounds ws c.0 m c.1, c.2, max_least greatest (λ w. w) refl (λ _ _. refl) ws 0 m (λ i h. a i 0 h))
+
+pub ruleset answers = (no_drum, too_many, too_much, too_little)

@@ -1,31 +1,28 @@
 -- What is promised of every beat. Assumes nothing.
 use mathlib.Core.Path.{◌≡◌, refl, sym, ap, subst, ◌∙◌}
-use Prim.Native.Nat.{ℕ, zero, suc, ◌+◌, ◌-◌, ◌≤◌, ◌<◌, min}
+use Prim.Native.Nat.{ℕ, zero, suc, ◌-◌, ◌≤◌, ◌<◌, min}
 use native.Mathlib.Omega.{arith}
 use mathlib.Core.Logic.{◌⊎◌, inl, inr, ⊎_elim}
 use mathlib.Core.List.{List, [], ◌∷◌, ◌++◌}
 use lib.ListN.{length, get_or, replicate, length-append, length-replicate, get_or-append}
+use Rattle.std.proofs.lemmas.Grind.{common_steps}
+use Rattle.std.proofs.lemmas.List.{places, get_or_past}
+use Rattle.std.proofs.lemmas.List.Recursion.{is_sum_by}
 use Rattle.refusal.specs.Base.{good}
 use Rattle.refusal.proofs.Tools.{good-inj, refused≢good, split}
 use Rattle.share.specs.Share.{Drum, gots, sum, up_to, stroke, round, shares, eight, greatest, share, Fair, Beat, AllFair}
 use Rattle.share.specs.Contract.{Whole}
-use Rattle.share.proofs.Laws.{stroke-is, up_to-none, up_to-wished, full-sum, round-part, full-final, first-reaches, shares-are}
-use Rattle.share.proofs.Laws.{no-drum, too_many, too_much, too-little, shared}
+use Rattle.share.proofs.Laws.{stroke_is, up_to_none, up_to-wished, full-sum, round-part, greatest_bounds, full-final, first-reaches, shares-are}
+use Rattle.share.proofs.Laws.{no_drum, too_many, too_much, too_little, shared}
 
 -- ---- zeros behind
 
 zeros-sum : (ns : List ℕ) (k : ℕ) → sum (ns ++ replicate k 0) ≡ sum ns
 unfolding sum
-zeros-sum [] zero = refl
-zeros-sum [] (suc k) = omega (arith, zeros-sum [] k)
-zeros-sum (n ∷ ns) k = ap (λ (m : ℕ). n + m) (zeros-sum ns k)
+zeros-sum ns k = grind (arith, common_steps, is_sum_by sum (λ n. n) refl (λ _ _. refl))
 
 zeros-at : (ns : List ℕ) (k i : ℕ) → length ns ≤ i → get_or (ns ++ replicate k 0) i 0 ≡ 0
-zeros-at [] zero i h = refl
-zeros-at [] (suc k) zero h = refl
-zeros-at [] (suc k) (suc i) h = zeros-at [] k i (omega arith)
-zeros-at (n ∷ ns) k zero h = absurd (omega arith)
-zeros-at (n ∷ ns) k (suc i) h = zeros-at ns k i (omega arith)
+zeros-at ns k i h = grind (arith, places, get_or_past)
 
 -- ---- a round with the rest, drum by drum
 
@@ -39,14 +36,8 @@ round-at : (n rest : ℕ) (ws : List ℕ) (i : ℕ) → i < length ws →
     (min (get_or ws i 0) n ≤ get_or (gots (round rest (up_to n ws))) i 0) × (get_or (gots (round rest (up_to n ws))) i 0 ≤ min (get_or ws i 0) (suc n))
 unfolding gots round up_to
 round-at n rest [] i h = absurd (omega arith)
-round-at n rest (w ∷ ws) zero h = let s = stroke-is rest (record { wish = w; got = min w n }) in (omega arith, omega arith)
+round-at n rest (w ∷ ws) zero h = let s = stroke_is rest (record { wish = w; got = min w n }) in (omega arith, omega arith)
 round-at n rest (w ∷ ws) (suc i) h = round-at n (rest - stroke rest (record { wish = w; got = min w n })) ws i (omega arith)
-
-greatest-at : (ws : List ℕ) (i : ℕ) → get_or ws i 0 ≤ greatest ws
-unfolding greatest
-greatest-at [] i = omega arith
-greatest-at (w ∷ ws) zero = omega arith
-greatest-at (w ∷ ws) (suc i) = omega (arith, greatest-at ws i)
 
 module _ (ws : List ℕ) (allowed : ℕ) where
   -- some number of whole rounds is all that the supply allows
@@ -54,7 +45,7 @@ module _ (ws : List ℕ) (allowed : ℕ) where
   whole {X} k = go (greatest ws) (omega arith) (inl refl)
     where
       go : (n : ℕ) → n ≤ greatest ws → (n ≡ greatest ws) ⊎ (allowed < sum (gots (up_to (suc n) ws))) → X
-      go zero h l = k 0 (record { fits = omega (arith, up_to-none ws); left = refl; small = h; last = l })
+      go zero h l = k 0 (record { fits = omega (arith, up_to_none ws); left = refl; small = h; last = l })
       go (suc n) h l = ⊎_elim
           (λ over. go n (omega arith) (inr over))
           (λ fits. k (suc n) (record { fits = fits; left = refl; small = h; last = l }))
@@ -64,7 +55,7 @@ module _ (ws : List ℕ) (allowed : ℕ) where
     fair-round : (n : ℕ) → Whole ws allowed n (allowed - sum (gots (up_to n ws))) → Fair ws allowed (eight (gots (round (allowed - sum (gots (up_to n ws))) (up_to n ws))))
     unfolding eight
     fair-round n w = record {
-      least = λ i h. rw (front i h) (omega (arith, (round-at n rest ws i h).0, first-reaches w, greatest-at ws i));
+      least = λ i h. rw (front i h) (omega (arith, (round-at n rest ws i h).0, first-reaches w, greatest_bounds ws i 0 h));
       most = λ i h. rw (front i h) (omega (arith, (round-at n rest ws i h).1));
       total = zeros-sum gs (8 - length gs) ∙ ⊎_elim
           (λ e. let f = ap (λ (ds : List Drum). sum (gots ds)) (full-final w e) ∙ full-sum (greatest ws) ws (omega arith) in omega (arith, f, fits e))
@@ -94,13 +85,13 @@ module _ (ws : List ℕ) (allowed : ℕ) where
 
   pub fair : (ns : List ℕ) → share ws allowed ≡ good ns → Fair ws allowed ns
   fair ns e = ⊎_elim
-      (λ none. refused≢good ns 61 0 0 (sym (no-drum ws allowed none) ∙ e))
+      (λ none. refused≢good ns 61 0 0 (sym (no_drum ws allowed none) ∙ e))
       (λ some. ⊎_elim
       (λ many. refused≢good ns 61 0 0 (sym (too_many ws allowed some many) ∙ e))
       (λ few. ⊎_elim
       (λ much. refused≢good ns 61 0 0 (sym (too_much ws allowed some few much) ∙ e))
       (λ ok. ⊎_elim
-      (λ little. refused≢good ns 62 0 0 (sym (too-little ws allowed some few ok little) ∙ e))
+      (λ little. refused≢good ns 62 0 0 (sym (too_little ws allowed some few ok little) ∙ e))
       (λ enough. rw (good-inj _ ns (sym (shared ws allowed some few ok enough) ∙ e)) at (fair-shares few ok))
       (split allowed (length ws)))
       (split 255 (greatest ws)))

@@ -1,38 +1,18 @@
 -- A turn of each loop. Assumes nothing.
-use mathlib.Core.Path.{◌≡◌, sym, ap, ◌∙◌}
-use Prim.Native.Nat.{ℕ, suc, ◌+◌, ◌-◌, ◌≤◌, ◌<◌, min, max}
-use native.Mathlib.Numerals.{add-one}
-use native.Mathlib.Omega.{arith}
-use mathlib.Core.List.{List, [], ◌∷◌, ◌++◌, append-nil}
-use lib.ListN.{length, get_or, take, drop, set, replicate, length-set, take-append-drop, drop_of_length-le}
-use lib.Seq.{drop-cons, append_snoc, take-suc-set, drop-set-lt, length-take-le}
-use Rattle.share.specs.Share.{Drum, gots, sum, up_to, stroke, round, eight, greatest}
+use Rattle.std.proofs.Common.{◌≡◌, ℕ, suc, ◌+◌, ◌-◌, ◌≤◌, ◌<◌, min, List, [], ◌∷◌, ◌++◌, length, get_or, take, drop, set, replicate, sym, ap, ◌∙◌, arith, add-one, append-nil, drop_of_length-le, take-suc-set, length-set, take-append-drop, drop-cons, drop-set-lt, length-take-le}
+use Rattle.std.proofs.Math.Seq.{append_snoc}
+use Rattle.share.specs.Share.{Drum, gots, up_to, stroke, round, eight}
+use Rattle.share.proofs.Laws.{stroke_is}
 
 module _ (ws : List ℕ) (i : ℕ) where
-  pub greatest-next : i < length ws → greatest (drop i ws) ≡ max (get_or ws i 0) (greatest (drop (i + 1) ws))
-  unfolding greatest
-  greatest-next h = rw (add-one, drop-cons ws i 0 h)
-
-  pub greatest-end : length ws ≤ i → greatest (drop i ws) ≡ 0
-  unfolding greatest
-  greatest-end h = rw (drop_of_length-le ws {i = i} h)
-
-  pub sum-next : (t : ℕ) → i < length ws → sum (gots (up_to t (drop i ws))) ≡ min (get_or ws i 0) t + sum (gots (up_to t (drop (i + 1) ws)))
-  unfolding up_to gots sum
-  sum-next t h = rw (add-one, drop-cons ws i 0 h)
-
-  pub sum-end : (t : ℕ) → length ws ≤ i → sum (gots (up_to t (drop i ws))) ≡ 0
-  unfolding up_to gots sum
-  sum-end t h = rw (drop_of_length-le ws {i = i} h)
-
-  pub round-next : (t left : ℕ) → i < length ws → (let d : Drum = record { wish = get_or ws i 0; got = min (get_or ws i 0) t } in
+  pub round_next : (t left : ℕ) → i < length ws → (let d : Drum = record { wish = get_or ws i 0; got = min (get_or ws i 0) t } in
       gots (round left (up_to t (drop i ws))) ≡ (min (get_or ws i 0) t + stroke left d) ∷ gots (round (left - stroke left d) (up_to t (drop (i + 1) ws))))
   unfolding up_to gots round
-  round-next t left h = rw (add-one, drop-cons ws i 0 h)
+  round_next t left h = rw (add-one, drop-cons ws i 0 h)
 
-  pub round-end : (t left : ℕ) → length ws ≤ i → gots (round left (up_to t (drop i ws))) ≡ []
+  pub round_end : (t left : ℕ) → length ws ≤ i → gots (round left (up_to t (drop i ws))) ≡ []
   unfolding up_to gots round
-  round-end t left h = rw (drop_of_length-le ws {i = i} h)
+  round_end t left h = rw (drop_of_length-le ws {i = i} h)
 
 -- of all numbers the first i are stored among eight, the others are left, and the places behind are still 0
 pub record Stored (all out : List ℕ) (i : ℕ) (left : List ℕ) : Type 0 where
@@ -52,9 +32,11 @@ stored_more {all} {out} {left} {i} v h s =
       long = simp length-set s.long;
     }
 
-pub stored-all : {all out : List ℕ} {i : ℕ} → i ≤ 8 → Stored all out i [] → out ≡ eight all
+pub stored_all : {all out : List ℕ} {i : ℕ} → i ≤ 8 → Stored all out i [] → out ≡ eight all
 unfolding eight
-stored-all {all} {out} {i} h s =
+stored_all {all} {out} {i} h s =
     let e : take i out ≡ all = sym (append-nil (take i out)) ∙ s.front in
     let n : length all ≡ i = ap length (sym e) ∙ length-take-le i out (omega (arith, s.long)) in
     sym (take-append-drop i out) ∙ rw (s.behind, e, n)
+
+pub ruleset turns = (round_next, round_end, stored_more, stored_all, stroke_is)

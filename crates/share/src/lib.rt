@@ -1,7 +1,9 @@
-// Several drums on one supply (document 02, P11): the strokes that each gets of what the supply allows in a beat.
+// Several drums on one supply: the strokes that each gets of what the supply allows in a beat.
 #![tactic(auto)]
 
-ghost use Rattle.std.specs.Prelude.{◌≡◌, ◌≤◌, min, max, length, replicate};
+ghost use Rattle.std.specs.Prelude.{◌≡◌, ◌≤◌, ◌↔◌, length, IsSome, IfSome, MatchResult};
+ghost use Rattle.refusal.specs.Base.{good};
+ghost use Rattle.refusal.specs.Told.{refusal};
 ghost use Rattle.share.specs.Share as definition;
 ghost use Rattle.share.specs.Share.{gots, sum, up_to, round, eight, greatest, numbers_of, answer_of};
 ghost use Rattle.share.specs.Contract.{Whole};
@@ -14,17 +16,18 @@ const MOST_DRUMS: usize = 8;
 // That a drum may wish for in a beat.
 const MOST_STROKES: u32 = 255;
 
-#[derive(Clone, Copy)]
+// An enum of its own, as each public job answers: what it tells has names, and the definitions name its cases.
+#[derive(Clone, Copy, Debug, PartialEq, Eq)]
 pub enum ShareAnswer {
     Given,
     Refused(Refusal),
 }
 
 // What eight drums get, in their order: 0 for those that are not there, and for all on a refusal.
-#[derive(Clone, Copy)]
+#[derive(Clone, Copy, Debug, PartialEq, Eq)]
 pub struct Shares {
     pub answer: ShareAnswer,
-    pub strokes: [u32; 8],
+    pub strokes: [u32; MOST_DRUMS],
 }
 
 // Whole rounds, and what is left for one that is not whole.
@@ -34,44 +37,30 @@ struct Rounds {
     rest: u32,
 }
 
-fn larger(a: u32, b: u32) -> u32
-    ensures { result ≡ max a b }
+// None where there is no drum.
+fn greatest_of(wishes: &[u32]) -> Option<u32>
+    ensures is_some { IsSome result ↔ (1 ≤ length wishes.now) }
+    ensures is_greatest { IfSome result (λ most. most ≡ greatest wishes.now) }
 {
-    if a <= b { b } else { a }
-}
-
-fn smaller(a: u32, b: u32) -> u32
-    ensures { result ≡ min a b }
-{
-    if a <= b { a } else { b }
-}
-
-fn greatest(wishes: &[u32]) -> u32
-    ensures { result ≡ greatest wishes.now }
-{
-    let mut most = 0;
-    for i in 0..wishes.len() {
-        most = larger(most, wishes[i]);
-    }
-    most
+    wishes.iter().copied().max()
 }
 
 // The strokes of so many rounds, in each of which every drum that still wants gets one.
 fn strokes_of(wishes: &[u32], rounds: u32) -> u32
-    requires { (length wishes.now ≤ 8) × (rounds ≤ 255) }
+    requires few { length wishes.now ≤ 8 }
+    requires small { rounds ≤ 255 }
     ensures { result ≡ sum (gots (up_to rounds wishes.now)) }
 {
-    let mut strokes = 0;
-    for i in 0..wishes.len() {
-        strokes += smaller(wishes[i], rounds);
-    }
-    strokes
+    wishes.iter().map(|&wish| wish.min(rounds)).sum()
 }
 
 // As many whole rounds as the supply allows, of those that the drum with the greatest wish wants, found by halving. The first shares are
-// whole rounds too, so these are counted from nothing.
+// whole rounds too, so these are counted from nothing. A `while`, as there is no list to search.
+#[tactic(auto, using(crate::proofs::Laws::up_to_none))]
 fn whole_rounds(wishes: &[u32], most: u32, allowed: u32) -> Rounds
-    requires { (length wishes.now ≤ 8) × (most ≡ greatest wishes.now) × (most ≤ 255) }
+    requires few { length wishes.now ≤ 8 }
+    requires is_greatest { most ≡ greatest wishes.now }
+    requires small { most ≤ 255 }
     ensures { Whole wishes.now allowed result.whole result.rest }
 {
     let mut whole = 0;
@@ -91,26 +80,24 @@ fn whole_rounds(wishes: &[u32], most: u32, allowed: u32) -> Rounds
 }
 
 // A stroke for a drum that still wants one, if any are left.
+#[tactic(auto, using(crate::proofs::Laws::stroke_is))]
 fn stroke(wish: u32, got: u32, left: u32) -> u32
     ensures { result ≡ definition.stroke left (record { wish = wish; got = got }) }
 {
-    if wish <= got {
-        return 0;
-    }
-    smaller(left, 1)
+    if got < wish { left.min(1) } else { 0 }
 }
 
 // What the drums have after the whole rounds and one with the rest.
-fn last_round(wishes: &[u32], rounds: Rounds) -> [u32; 8]
-    requires { (length wishes.now ≤ 8) × (rounds.whole ≤ 255) }
+#[tactic(auto, using(crate::proofs::Turns::turns))]
+fn last_round(wishes: &[u32], rounds: Rounds) -> [u32; MOST_DRUMS]
+    requires few { length wishes.now ≤ 8 }
+    requires small { rounds.whole ≤ 255 }
     ensures { result ≡ eight (gots (round rounds.rest (up_to rounds.whole wishes.now))) }
 {
-    let whole = rounds.whole;
     let mut left = rounds.rest;
-    let mut strokes = [0u32; 8];
-    for i in 0..wishes.len() {
-        let wish = wishes[i];
-        let got = smaller(wish, whole);
+    let mut strokes = [0; MOST_DRUMS];
+    for (i, &wish) in wishes.iter().enumerate() {
+        let got = wish.min(rounds.whole);
         let more = stroke(wish, got, left);
         strokes[i] = got + more;
         left -= more;
@@ -118,35 +105,39 @@ fn last_round(wishes: &[u32], rounds: Rounds) -> [u32; 8]
     strokes
 }
 
-fn refused(e: Refusal) -> Shares
-    ensures { (result.answer ≡ ShareAnswer.Refused e) × (result.strokes ≡ replicate 8 0) }
+#[tactic(auto, using(crate::proofs::Laws::answers))]
+fn strokes_given(wishes: &[u32], allowed: u32) -> Result<[u32; MOST_DRUMS], Refusal>
+    ensures { MatchResult result (λ strokes. definition.share wishes.now allowed ≡ good strokes)
+        (λ e. definition.share wishes.now allowed ≡ refusal e) }
 {
-    Shares {
-        answer: ShareAnswer::Refused(e),
-        strokes: [0; 8],
+    if wishes.len() > MOST_DRUMS {
+        return Err(Refusal::WishesOutOfRange);
     }
+    let Some(most) = greatest_of(wishes) else {
+        return Err(Refusal::WishesOutOfRange);
+    };
+    if most > MOST_STROKES {
+        return Err(Refusal::WishesOutOfRange);
+    }
+    if (allowed as usize) < wishes.len() {
+        return Err(Refusal::SupplyTooSmall);
+    }
+    Ok(last_round(wishes, whole_rounds(wishes, most, allowed)))
 }
 
+#[tactic(auto, unfolding(crate::specs::Share::numbers_of))]
 pub fn share(wishes: &[u32], allowed: u32) -> Shares
     ensures answer { answer_of result.answer result.strokes ≡ definition.share wishes.now allowed }
     ensures strokes { result.strokes ≡ numbers_of (definition.share wishes.now allowed) }
 {
-    if wishes.len() == 0 {
-        return refused(Refusal::WishesOutOfRange);
-    }
-    if wishes.len() > MOST_DRUMS {
-        return refused(Refusal::WishesOutOfRange);
-    }
-    let most = greatest(wishes);
-    if most > MOST_STROKES {
-        return refused(Refusal::WishesOutOfRange);
-    }
-    if (allowed as usize) < wishes.len() {
-        return refused(Refusal::SupplyTooSmall);
-    }
-    let strokes = last_round(wishes, whole_rounds(wishes, most, allowed));
-    Shares {
-        answer: ShareAnswer::Given,
-        strokes,
+    match strokes_given(wishes, allowed) {
+        Ok(strokes) => Shares {
+            answer: ShareAnswer::Given,
+            strokes,
+        },
+        Err(e) => Shares {
+            answer: ShareAnswer::Refused(e),
+            strokes: [0; MOST_DRUMS],
+        },
     }
 }

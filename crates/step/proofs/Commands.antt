@@ -11,6 +11,7 @@ use Rattle.item.specs.Tree.{Yaml, Entries, done, pair, get}
 use Rattle.item.specs.declared.Found.{Found}
 use Rattle.item.specs.declared.Found.TheVariants as found
 use Rattle.entries.specs.Entries.{Holds, Finds, FoundAt, FoundInside}
+use Rattle.entries.specs.declared.Pair.{Pair}
 use Rattle.entries.proofs.Walking.{no_more, first-ranged, others-ranged, Turn}
 use Rattle.meaning.specs.Meaning.{step_fields}
 use Rattle.meaning.specs.Meanings.{commands, command_of}
@@ -118,30 +119,30 @@ walk_end {s} {es = es} {f = f} l m =
 
 -- ---- one entry more
 
-module _ {s : List ℕ} {to at start stop kind next : ℕ} (es : Entries) {rest : Entries} (h : Holds s at to rest) (t : Turn s at to rest start stop kind next) where
-  field-on : (k : List ℕ) (o : Found) → FieldLeft s k es rest o → FieldLeft s k es t.entry.others (field_with o (same (take (stop - start) (drop start s)) k) stop)
+module _ {s : List ℕ} {to at : ℕ} {p : Pair} (es : Entries) {rest : Entries} (h : Holds s at to rest) (t : Turn s at to rest p) where
+  field-on : (k : List ℕ) (o : Found) → FieldLeft s k es rest o → FieldLeft s k es t.entry.others (field_with o (same (take (p.end - p.start) (drop p.start s)) k) p.end)
   unfolding get
-  field-on k (found.At p) l = l
-  field-on k found.Nothing l = go (same (take (stop - start) (drop start s)) k) refl
+  field-on k (found.At q) l = l
+  field-on k found.Nothing l = go (same (take (p.end - p.start) (drop p.start s)) k) refl
     where
-      here : {b : Bool} → same (take (stop - start) (drop start s)) k ≡ b → get k es ≡ (if b then some t.entry.v else get k t.entry.others)
+      here : {b : Bool} → same (take (p.end - p.start) (drop p.start s)) k ≡ b → get k es ≡ (if b then some t.entry.v else get k t.entry.others)
       here e = l ∙ ap (get k) t.entry.is ∙ rw (ap (λ (w : List ℕ). same w k) (sym t.key_is) ∙ e)
 
-      go : (b : Bool) → same (take (stop - start) (drop start s)) k ≡ b → FieldLeft s k es t.entry.others (field_with found.Nothing b stop)
+      go : (b : Bool) → same (take (p.end - p.start) (drop p.start s)) k ≡ b → FieldLeft s k es t.entry.others (field_with found.Nothing b p.end)
       go true e = record { value = t.entry.v; is = here e; ranged = first-ranged t.entry h.ranged; stands = t.value }
       go false e = here e
 
-  command-on : (c : Command) → CommandLeft s es rest c → CommandLeft s es t.entry.others (command_with c (one_of (take (stop - start) (drop start s)) step_fields) start stop)
+  command-on : (c : Command) → CommandLeft s es rest c → CommandLeft s es t.entry.others (command_with c (one_of (take (p.end - p.start) (drop p.start s)) step_fields) p.start p.end)
   unfolding commands command_of
-  command-on c l = go c (one_of (take (stop - start) (drop start s)) step_fields) refl l
+  command-on c l = go c (one_of (take (p.end - p.start) (drop p.start s)) step_fields) refl l
     where
-      here : {b : Bool} → one_of (take (stop - start) (drop start s)) step_fields ≡ b → commands rest ≡ (if b then commands t.entry.others else pair t.entry.k t.entry.v (commands t.entry.others))
+      here : {b : Bool} → one_of (take (p.end - p.start) (drop p.start s)) step_fields ≡ b → commands rest ≡ (if b then commands t.entry.others else pair t.entry.k t.entry.v (commands t.entry.others))
       here e = ap commands t.entry.is ∙ rw (ap (λ (w : List ℕ). one_of w step_fields) (sym t.key_is) ∙ e)
 
-      entry : EntryAt s start stop t.entry.k t.entry.v
+      entry : EntryAt s p.start p.end t.entry.k t.entry.v
       entry = record { key = t.key_is; ranged = first-ranged t.entry h.ranged; value = t.value }
 
-      go : (c : Command) (b : Bool) → one_of (take (stop - start) (drop start s)) step_fields ≡ b → CommandLeft s es rest c → CommandLeft s es t.entry.others (command_with c b start stop)
+      go : (c : Command) (b : Bool) → one_of (take (p.end - p.start) (drop p.start s)) step_fields ≡ b → CommandLeft s es rest c → CommandLeft s es t.entry.others (command_with c b p.start p.end)
       go Nothing true e l = l ∙ here e
       go (One key value) true e l = record { k = l.k; v = l.v; is = l.is ∙ ap (pair l.k l.v) (here e); entry = l.entry }
       go More true e l = l
@@ -149,8 +150,8 @@ module _ {s : List ℕ} {to at start stop kind next : ℕ} (es : Entries) {rest 
       go (One key value) false e l = λ n. rw (l.is ∙ ap (pair l.k l.v) (here e))
       go More false e l = l
 
-pub walk-on : {s : List ℕ} {to at start stop kind next : ℕ} {es : Entries} {f : StepFields} (l : Left s to at es f) (t : Turn s at to l.rest start stop kind next)
-    → Left s to next es (fields_with f (take (stop - start) (drop start s)) start stop)
+pub walk-on : {s : List ℕ} {to at : ℕ} {p : Pair} {es : Entries} {f : StepFields} (l : Left s to at es f) (t : Turn s at to l.rest p)
+    → Left s to p.next es (fields_with f (take (p.end - p.start) (drop p.start s)) p.start p.end)
 walk-on {es = es} {f = f} l t = record {
   rest = t.entry.others;
   holds = record { ranged = others-ranged t.entry l.holds.ranged; lies = t.behind };

@@ -1,6 +1,6 @@
 -- `continue_on_error` and `expect`, by the kinds of their values. Assumes nothing.
 use mathlib.Core.Path.{◌≡◌, refl, sym, ap, ◌∙◌}
-use Prim.Native.Nat.{ℕ}
+use Prim.Native.Nat.{ℕ, ◌≤◌}
 use native.Mathlib.Omega.{arith}
 use mathlib.Core.List.{List}
 use mathlib.Core.Bool.{Bool, true, false}
@@ -11,9 +11,11 @@ use borrow.Author.Tests.{eqb-true, eqb-false}
 use Rattle.refusal.specs.Base.{refused}
 use Rattle.item.specs.Tree.{Yaml, null, bool, int, str, seq, dict}
 use Rattle.item.specs.Encode.{flag, kind_of}
-use Rattle.entries.specs.Entries.{FoundAt, content}
-use Rattle.entries.proofs.Standing.{stands-is, stands-byte, Valued}
-use Rattle.entries.proofs.Values.{a-bool, mapped}
+use Rattle.item.specs.declared.Item.{Item}
+use Rattle.entries.specs.Entries.{content}
+use Rattle.entries.proofs.Standing.{stands-is, stands-byte}
+use Rattle.entries.proofs.Values.{a-bool, entries-of}
+use Rattle.nodes.specs.Contract.{FoundItem}
 use Rattle.meaning.specs.Meanings.{expect_of, is_true}
 use Rattle.step.specs.Contract.{mapping, AgreesExpect}
 
@@ -48,28 +50,30 @@ pub expect-absent : {o : Option Yaml} → o ≡ none → AgreesExpect o true
 unfolding mapping
 expect-absent e = (none, e)
 
-module _ {s : List ℕ} {o : Option Yaml} {p : ℕ} (f : FoundAt s o p) {kind from to : ℕ} (i : Valued s p f.value kind from to) where
-  pub true-other : (kind ≡ 1 → ⊥) → false ≡ is_true o
-  true-other k = other-true f.value (λ e. k (i.kind_is ∙ e)) ∙ ap is_true (sym f.is)
+module _ {s : List ℕ} {o : Option Yaml} {item : Item} (f : FoundItem s o item) where
+  true-other : (item.kind ≡ 1 → ⊥) → false ≡ is_true o
+  true-other k = other-true f.value (λ e. k (f.item_is.kind_is ∙ e)) ∙ ap is_true (sym f.is)
 
-  module _ (k : kind ≡ 1) where
+  module _ (k : item.kind ≡ 1) where
     is-bool : (b : Bool) × (f.value ≡ bool b)
-    is-bool = a-bool f.value (sym i.kind_is ∙ k)
+    is-bool = a-bool f.value (sym f.item_is.kind_is ∙ k)
 
-    pub true-empty : from ≡ to → false ≡ is_true o
-    unfolding content
-    true-empty e = absurd (omega (arith, i.ends, ap (λ (v : Yaml). length (content v)) is-bool.1))
-
-    pub true-byte : eqb (get_or s from 0) 1 ≡ is_true o
+    pub true-byte : eqb (get_or s item.from 0) 1 ≡ is_true o
     unfolding content is_true
     true-byte =
-        ap (λ (n : ℕ). eqb n 1) (stands-byte (stands-is (ap content is-bool.1) i.inside)) ∙ flag-told is-bool.0
+        ap (λ (n : ℕ). eqb n 1) (stands-byte (stands-is (ap content is-bool.1) f.item_is.stands)) ∙ flag-told is-bool.0
         ∙ ap (λ (v : Yaml). is_true (some v)) (sym is-bool.1) ∙ ap is_true (sym f.is)
 
-  pub expect-kind : AgreesExpect o (eqb kind 5)
+  pub not-true : (item.kind ≡ 1 → item.to ≤ item.from) → false ≡ is_true o
+  unfolding content
+  not-true h = true-other (λ k. omega (arith, h k, f.item_is.ends, ap (λ (v : Yaml). length (content v)) (is-bool k).1))
+
+  pub expect-kind : AgreesExpect o (eqb item.kind 5)
   unfolding mapping
-  expect-kind = go (eqb kind 5) refl
+  expect-kind = go (eqb item.kind 5) refl
     where
-      go : (b : Bool) → eqb kind 5 ≡ b → AgreesExpect o b
-      go true e = let m = mapped f.value f.ranged i (eqb-true _ _ e) in (some m.entries, f.is ∙ ap some m.is)
-      go false e = λ line n. ap (expect_of line n) f.is ∙ other-expect line n f.value (λ k. eqb-false _ _ e (i.kind_is ∙ k))
+      go : (b : Bool) → eqb item.kind 5 ≡ b → AgreesExpect o b
+      go true e =
+          let m = entries-of f.value f.ranged f.item_is.stands f.item_is.ends (sym f.item_is.kind_is ∙ eqb-true _ _ e) in
+          (some m.entries, f.is ∙ ap some m.is)
+      go false e = λ line n. ap (expect_of line n) f.is ∙ other-expect line n f.value (λ k. eqb-false _ _ e (f.item_is.kind_is ∙ k))

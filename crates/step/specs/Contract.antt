@@ -1,24 +1,22 @@
 -- Section 4 of document 01, for contracts: what the readers and the writers of a step promise. Uses Base and Told of `refusal`; Tree and
--- Encode of `item`; Scalars of `scalar`; Entries of `entries`; Meaning and Meanings of `meaning`; Contract of `nodes`. Assumes nothing.
-use Rattle.std.specs.Prelude.{◌≡◌, ℕ, ◌-◌, ◌≤◌, List, Bool, true, false, length, take, drop}
+-- Encode of `item`; Entries of `entries`; Meaning and Meanings of `meaning`; Contract of `nodes`. Assumes nothing.
+use Rattle.std.specs.Prelude.{◌≡◌, ℕ, ◌-◌, ◌≤◌, List, Bool, true, false, length, take, drop, Result, Ok, Err}
 use Rattle.std.proofs.Math.Option.{Option, none, some}
-use Rattle.refusal.specs.Base.{Answer, good, refused, ensure, maybe, bytes}
+use Rattle.refusal.specs.Base.{Answer, good, refused, ensure, bytes}
 use Rattle.refusal.specs.Told.{refusal}
+use Rattle.refusal.specs.declared.Refusal.{Refusal}
 use Rattle.item.specs.Tree.{Yaml, dict, Entries, Ranged, get}
 use Rattle.item.specs.Encode.{encode}
 use Rattle.item.specs.declared.Found.{Found}
 use Rattle.item.specs.declared.Found.TheVariants as found
-use Rattle.scalar.specs.Scalars.{key_text}
 use Rattle.entries.specs.Entries.{Stands, Finds, FoundInside}
-use Rattle.nodes.specs.Contract.{ReadsFound}
+use Rattle.nodes.specs.Contract.{ReadsFound, scalar_text, text_or_empty}
 use Rattle.meaning.specs.Meaning.{Step}
-use Rattle.meaning.specs.Meanings.{or_empty, expect_of, commands, command_of, expect_allowed, is_true}
+use Rattle.meaning.specs.Meanings.{expect_of, commands, command_of, expect_allowed, is_true}
 use Rattle.step.specs.declared.Command.{Command}
 use Rattle.step.specs.declared.Command.TheVariants.{Nothing, One, More}
 use Rattle.step.specs.declared.StepFields.{StepFields}
 use Rattle.step.specs.declared.StepPlaces.{StepPlaces}
-use Rattle.step.specs.declared.StepRead.{StepRead}
-use Rattle.step.specs.declared.StepRead.TheVariants as read
 
 -- ---- a step by its places
 
@@ -34,10 +32,10 @@ mapping none = none
 mapping (some es) = some (dict es)
 
 pub record StepStands (s : List ℕ) (step : Step) (p : StepPlaces) : Type 0 where
-  pub name : ReadsFound s (λ o. or_empty (maybe o none key_text)) p.name step.name
-  pub id : ReadsFound s (λ o. or_empty (maybe o none key_text)) p.id step.id
+  pub name : ReadsFound s text_or_empty p.name step.name
+  pub id : ReadsFound s text_or_empty p.id step.id
   pub command : EntryAt s p.key p.value step.key step.value
-  pub timeout : ReadsFound s (λ o. maybe o none key_text) p.timeout step.timeout
+  pub timeout : ReadsFound s scalar_text p.timeout step.timeout
   pub continue : ReadsFound s is_true p.continues step.continue
   pub expect : Finds s (mapping step.expect) p.expect
 
@@ -47,9 +45,9 @@ pub record ReadsStep (s : List ℕ) (answer : Answer Step) (p : StepPlaces) : Ty
   pub is : answer ≡ good step
   pub stands : StepStands s step p
 
-abbrev pub AgreesStep : List ℕ → Answer Step → StepRead → Type 0
-AgreesStep s answer (read.Step p) = ReadsStep s answer p
-AgreesStep s answer (read.Refused e) = answer ≡ refusal e
+abbrev pub AgreesStep : List ℕ → Answer Step → Result StepPlaces Refusal → Type 0
+AgreesStep s answer (Ok p) = ReadsStep s answer p
+AgreesStep s answer (Err e) = answer ≡ refusal e
 
 -- places in the bytes, whatever they are
 pub record StepPlacesInside (s : List ℕ) (p : StepPlaces) : Type 0 where
@@ -60,10 +58,6 @@ pub record StepPlacesInside (s : List ℕ) (p : StepPlaces) : Type 0 where
   pub timeout : FoundInside s p.timeout
   pub continue : FoundInside s p.continues
   pub expect : FoundInside s p.expect
-
-abbrev pub ReadInside : List ℕ → StepRead → Type 0
-ReadInside s (read.Step p) = StepPlacesInside s p
-ReadInside s (read.Refused e) = Unit {0}
 
 -- ---- 33
 

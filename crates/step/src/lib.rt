@@ -1,27 +1,27 @@
-// A step in the bytes of its mapping (document 01, section 4): read as the places of its parts, which writes nothing, and written from
-// them as its item (section 5). Its seven parts take at most 2 ^ 21 bytes each, so a step takes less than 2 ^ 24.
+// A step in the bytes of its mapping: read as the places of its parts, which writes nothing, and written from them as its item.
 #![tactic(auto)]
 
-ghost use Rattle.std.specs.Prelude.{◌≡◌, ◌++◌, ◌+◌, ◌*◌, ◌≤◌, ◌^◌, length};
+ghost use Rattle.std.specs.Prelude.{◌≡◌, ◌≤◌, ◌^◌, IfOk, length};
 ghost use Rattle.std.proofs.Math.Option.{Option};
-ghost use Rattle.item.specs.Tree.{Yaml, Entries, bool, Ranged};
+ghost use Rattle.item.specs.Tree.{Yaml, Entries, Ranged};
 ghost use Rattle.item.specs.Encode.{encode};
 ghost use Rattle.entries.specs.Entries.{Stands, Holds, Finds};
-ghost use Rattle.nodes.specs.Contract.{Stored, AgreesPart, PartNear};
+ghost use Rattle.nodes.specs.Writing.{Goes, Writes};
+ghost use Rattle.nodes.specs.Contract.{IsItem, AgreesPart};
 ghost use Rattle.meaning.specs.Meaning.{Step};
-ghost use Rattle.meaning.specs.Record.{text_item, optional, expected, step_item};
+ghost use Rattle.meaning.specs.Record.{step_item};
 ghost use Rattle.meaning.specs.Meanings.{is_true, step_of, step_at};
-ghost use Rattle.step.specs.Contract.{StepStands, AgreesStep, ReadInside, AgreesExpect, field_with, command_with};
+ghost use Rattle.step.specs.Contract.{StepStands, AgreesStep, StepPlacesInside, AgreesExpect, field_with, command_with};
 ghost use Rattle.step.specs.Contract.{FieldsInside, AgreesFields, AgreesAllowed};
 
-use entries::{Pair, pair_at};
-use item::{Found, Header, header_at, same_bytes};
+use entries::Pairs;
+use item::{Found, Item, Kind, header_at, same_bytes};
 use meaning::is_built_in;
-use nodes::{Part, close, put_found, put_optional, put_text, put_value};
+use nodes::{RecordWriter, item_found, put_found, put_optional, put_value};
 use refusal::Refusal;
 
-// Where the parts of a step stand. The text of the command's key goes from `key` to `value`, where the item of its value begins.
-#[derive(Clone, Copy)]
+/// Where the parts of a step stand. The text of the command's key goes from `key` to `value`, where the item of its value begins.
+#[derive(Clone, Copy, Debug, PartialEq, Eq)]
 pub struct StepPlaces {
     pub name: Found,
     pub id: Found,
@@ -32,15 +32,8 @@ pub struct StepPlaces {
     pub expect: Found,
 }
 
-// What reading a step answers.
-#[derive(Clone, Copy)]
-pub enum StepRead {
-    Step(StepPlaces),
-    Refused(Refusal),
-}
-
 // The entries whose key is no step field: none, one, or more.
-#[derive(Clone, Copy)]
+#[derive(Clone, Copy, Debug, PartialEq, Eq)]
 enum Command {
     Nothing,
     One { key: usize, value: usize },
@@ -48,7 +41,7 @@ enum Command {
 }
 
 // What entries say: where the value of each step field stands, the first of its key, and the command.
-#[derive(Clone, Copy)]
+#[derive(Clone, Copy, Debug, PartialEq, Eq)]
 struct StepFields {
     name: Found,
     id: Found,
@@ -62,13 +55,10 @@ struct StepFields {
 fn field_with(field: Found, same: bool, value: usize) -> Found
     ensures { result ≡ field_with field same value }
 {
-    let Found::Nothing = field else {
-        return field;
-    };
-    if same {
-        return Found::At(value);
+    match field {
+        Found::Nothing if same => Found::At(value),
+        Found::Nothing | Found::At(_) => field,
     }
-    field
 }
 
 // The command with one entry more: `is_field` says whether the entry has the key of a step field.
@@ -78,16 +68,17 @@ fn command_with(command: Command, is_field: bool, key: usize, value: usize) -> C
     if is_field {
         return command;
     }
-    let Command::Nothing = command else {
-        return Command::More;
-    };
-    Command::One { key, value }
+    match command {
+        Command::Nothing => Command::One { key, value },
+        Command::One { .. } | Command::More => Command::More,
+    }
 }
 
-// What the entries from `from` to `to` say, in one walk.
+// What the entries from `from` to `to` say, in one walk. What was found so far stands in locals, since a struct handed on was slower: it is
+// copied at each entry.
 fn fields_in(s: &[u8], from: usize, to: usize) -> StepFields
-    requires { (length s.now ≤ 2 ^ 20) × (to ≤ length s.now) }
-    ensures fields_inside { FieldsInside s.now result }
+    requires { length s.now ≤ 2 ^ 20 }
+    ensures inside { FieldsInside s.now result }
     ensures fields { (es : Entries) → Holds s.now from to es → AgreesFields s.now es result }
 {
     let mut name = Found::Nothing;
@@ -96,32 +87,23 @@ fn fields_in(s: &[u8], from: usize, to: usize) -> StepFields
     let mut continues = Found::Nothing;
     let mut expect = Found::Nothing;
     let mut command = Command::Nothing;
-    let mut at = from;
-    while at < to {
-        let pair = pair_at(s, at);
-        let Pair::At {
-            start,
-            end,
-            kind: _,
-            next,
-        } = pair
-        else {
+    for pair in Pairs::within(s, from, to) {
+        let Ok(pair) = pair else {
             break;
         };
-        let word = &s[start..end];
+        let word = &s[pair.start..pair.end];
         let is_name = same_bytes(word, b"name");
         let is_id = same_bytes(word, b"id");
         let is_timeout = same_bytes(word, b"timeout");
         let is_continues = same_bytes(word, b"continue_on_error");
         let is_expect = same_bytes(word, b"expect");
         let is_field = is_name | is_id | is_timeout | is_continues | is_expect;
-        name = field_with(name, is_name, end);
-        id = field_with(id, is_id, end);
-        timeout = field_with(timeout, is_timeout, end);
-        continues = field_with(continues, is_continues, end);
-        expect = field_with(expect, is_expect, end);
-        command = command_with(command, is_field, start, end);
-        at = next;
+        name = field_with(name, is_name, pair.end);
+        id = field_with(id, is_id, pair.end);
+        timeout = field_with(timeout, is_timeout, pair.end);
+        continues = field_with(continues, is_continues, pair.end);
+        expect = field_with(expect, is_expect, pair.end);
+        command = command_with(command, is_field, pair.start, pair.end);
     }
     StepFields {
         name,
@@ -138,19 +120,10 @@ fn expect_fits(s: &[u8], expect: Found) -> bool
     requires { length s.now ≤ 2 ^ 20 }
     ensures { (o : Option Yaml) → Finds s.now o expect → AgreesExpect o result }
 {
-    let Found::At(p) = expect else {
+    let Some(item) = item_found(s, expect) else {
         return true;
     };
-    let head = header_at(s, p);
-    let Header::Item {
-        kind,
-        from: _,
-        to: _,
-    } = head
-    else {
-        return false;
-    };
-    kind == 5
+    item.kind == Kind::Map as usize
 }
 
 // Whether `expect` is absent or the key from `key` to `value` is no built-in command.
@@ -165,53 +138,61 @@ fn expect_allowed(s: &[u8], expect: Found, key: usize, value: usize) -> bool
 }
 
 // The step of the entries from `from` to `to`.
-fn read_entries(s: &[u8], from: usize, to: usize, line: u32, number: u32) -> StepRead
-    requires { (length s.now ≤ 2 ^ 20) × (to ≤ length s.now) }
-    ensures read_inside { ReadInside s.now result }
+fn read_entries(
+    s: &[u8],
+    from: usize,
+    to: usize,
+    line: u32,
+    number: u32,
+) -> Result<StepPlaces, Refusal>
+    requires { length s.now ≤ 2 ^ 20 }
+    ensures inside { IfOk result (StepPlacesInside s.now) }
     ensures step { (es : Entries) → Holds s.now from to es → AgreesStep s.now (step_of line number es) result }
 {
     let fields = fields_in(s, from, to);
-    let expect = fields.expect;
-    if !expect_fits(s, expect) {
-        return StepRead::Refused(Refusal::ExpectNotMapping { line, step: number });
+    if !expect_fits(s, fields.expect) {
+        return Err(Refusal::ExpectNotMapping { line, step: number });
     }
-    let command = fields.command;
-    let Command::One { key, value } = command else {
-        return StepRead::Refused(Refusal::NotOneCommand { step: number });
+    let Command::One { key, value } = fields.command else {
+        return Err(Refusal::NotOneCommand { step: number });
     };
-    if !expect_allowed(s, expect, key, value) {
-        return StepRead::Refused(Refusal::ExpectBesideBuiltIn { line, step: number });
+    if !expect_allowed(s, fields.expect, key, value) {
+        return Err(Refusal::ExpectBesideBuiltIn { line, step: number });
     }
-    let name = fields.name;
-    let id = fields.id;
-    let timeout = fields.timeout;
-    let continues = fields.continues;
-    StepRead::Step(StepPlaces {
-        name,
-        id,
+    Ok(StepPlaces {
+        name: fields.name,
+        id: fields.id,
         key,
         value,
-        timeout,
-        continues,
-        expect,
+        timeout: fields.timeout,
+        continues: fields.continues,
+        expect: fields.expect,
     })
 }
 
-// The step at the item `i`, in this line and with this number.
-pub fn read_step(s: &[u8], i: usize, line: u32, number: u32) -> StepRead
+fn read_item(s: &[u8], item: Item, line: u32, number: u32) -> Result<StepPlaces, Refusal>
     requires { length s.now ≤ 2 ^ 20 }
-    ensures read_inside { ReadInside s.now result }
+    ensures inside { IfOk result (StepPlacesInside s.now) }
+    ensures step { (y : Yaml) → Ranged y → IsItem s.now y item → AgreesStep s.now (step_at line number y) result }
+{
+    let is_mapping = item.kind == Kind::Map as usize;
+    if !is_mapping {
+        return Err(Refusal::StepNotMapping { step: number });
+    }
+    read_entries(s, item.from, item.to, line, number)
+}
+
+/// The step at the item `i`, in this line and with this number.
+pub fn read_step(s: &[u8], i: usize, line: u32, number: u32) -> Result<StepPlaces, Refusal>
+    requires { length s.now ≤ 2 ^ 20 }
+    ensures inside { IfOk result (StepPlacesInside s.now) }
     ensures step { (y : Yaml) → Ranged y → Stands s.now i (encode y)
         → AgreesStep s.now (step_at line number y) result }
 {
-    let head = header_at(s, i);
-    let Header::Item { kind, from, to } = head else {
-        return StepRead::Refused(Refusal::StepNotMapping { step: number });
+    let Ok(item) = header_at(s, i) else {
+        return Err(Refusal::StepNotMapping { step: number });
     };
-    if kind != 5 {
-        return StepRead::Refused(Refusal::StepNotMapping { step: number });
-    }
-    read_entries(s, from, to, line, number)
+    read_item(s, item, line, number)
 }
 
 // Whether a key's value is the boolean true.
@@ -219,98 +200,47 @@ fn is_true(s: &[u8], found: Found) -> bool
     requires { length s.now ≤ 2 ^ 20 }
     ensures { (o : Option Yaml) → Finds s.now o found → result ≡ is_true o }
 {
-    let Found::At(p) = found else {
+    let Some(item) = item_found(s, found) else {
         return false;
     };
-    let head = header_at(s, p);
-    let Header::Item { kind, from, to } = head else {
-        return false;
-    };
-    if kind != 1 {
-        return false;
+    let is_bool = item.kind == Kind::Bool as usize;
+    if is_bool && item.from < item.to {
+        return s[item.from] == 1;
     }
-    if from == to {
-        return false;
-    }
-    s[from] == 1
-}
-
-fn put_flag(out: &mut [u8], at: usize, flag: bool) -> usize
-    requires { (at ≤ 2 ^ 51) × (length out.old ≤ 2 ^ 20) }
-    ensures { Stored out.old out.new at (encode (bool flag)) result }
-{
-    let end = at + 7;
-    if end <= out.len() {
-        item::put_bool(out, at, flag);
-    }
-    end
-}
-
-fn put_names(s: &[u8], places: StepPlaces, out: &mut [u8], at: usize) -> usize
-    requires { (length s.now ≤ 2 ^ 20) × (at + 2 ^ 23 ≤ 2 ^ 51) × (length out.old ≤ 2 ^ 20) }
-    ensures near { (at ≤ result) × (result ≤ at + 2 ^ 22) × (length out.new ≡ length out.old) }
-    ensures names { (step : Step) → StepStands s.now step places
-        → Stored out.old out.new at (text_item step.name ++ text_item step.id) result }
-{
-    let name = places.name;
-    let id = places.id;
-    let end = put_found(s, name, out, at);
-    put_found(s, id, out, end)
-}
-
-fn put_command(s: &[u8], places: StepPlaces, out: &mut [u8], at: usize) -> usize
-    requires { (length s.now ≤ 2 ^ 20) × (places.key ≤ places.value) × (places.value ≤ length s.now) × (at + 2 ^ 23 ≤ 2 ^ 51)
-        × (length out.old ≤ 2 ^ 20) }
-    ensures near { (at ≤ result) × (result ≤ at + 2 ^ 22) × (length out.new ≡ length out.old) }
-    ensures command { (step : Step) → StepStands s.now step places
-        → Stored out.old out.new at (text_item step.key ++ encode step.value) result }
-{
-    let key = places.key;
-    let value = places.value;
-    let end = put_text(out, at, &s[key..value]);
-    put_value(s, Found::At(value), out, end)
-}
-
-// The timeout, whether to go on after an error, and what is expected.
-fn put_rest(s: &[u8], places: StepPlaces, out: &mut [u8], at: usize) -> usize
-    requires { (length s.now ≤ 2 ^ 20) × (at + 2 ^ 23 ≤ 2 ^ 51) × (length out.old ≤ 2 ^ 20) }
-    ensures near { (at ≤ result) × (result ≤ at + 3 * 2 ^ 21) × (length out.new ≡ length out.old) }
-    ensures fields { (step : Step) → StepStands s.now step places
-        → Stored out.old out.new at
-        (encode (optional step.timeout) ++ (encode (bool step.continue) ++ encode (expected step.expect))) result }
-{
-    let timeout = places.timeout;
-    let continues = places.continues;
-    let expect = places.expect;
-    let a = put_optional(s, timeout, out, at);
-    let b = put_flag(out, a, is_true(s, continues));
-    put_value(s, expect, out, b)
+    false
 }
 
 // The item of the step whose parts stand at these places.
-fn put_step(s: &[u8], places: StepPlaces, out: &mut [u8], at: usize) -> usize
-    requires { (length s.now ≤ 2 ^ 20) × (places.key ≤ places.value) × (places.value ≤ length s.now) × (at ≤ 2 ^ 50)
-        × (length out.old ≤ 2 ^ 20) }
-    ensures near { (at ≤ result) × (result ≤ at + 2 ^ 24) × (length out.new ≡ length out.old) }
-    ensures step { (step : Step) → StepStands s.now step places
-        → Stored out.old out.new at (step_item step) result }
+fn put_step(s: &[u8], places: StepPlaces, writer: &mut RecordWriter<'_>)
+    requires { (length s.now ≤ 2 ^ 20) × (places.key ≤ places.value) × (places.value ≤ length s.now) }
+    ensures goes { Goes writer.old writer.new }
+    ensures step { (step : Step) → StepStands s.now step places → Writes writer.old writer.new (step_item step) }
 {
-    let a = put_names(s, places, out, at + 6);
-    let b = put_command(s, places, out, a);
-    let c = put_rest(s, places, out, b);
-    close(out, at, 19, c);
-    c
+    let header = writer.open();
+    put_found(s, places.name, writer);
+    put_found(s, places.id, writer);
+    writer.text(&s[places.key..places.value]);
+    put_value(s, Found::At(places.value), writer);
+    put_optional(s, places.timeout, writer);
+    writer.bool(is_true(s, places.continues));
+    put_value(s, places.expect, writer);
+    writer.close(header, Kind::Step);
 }
 
-// The step at the item `i`, in this line and with this number, written as its item.
-pub fn step_at(s: &[u8], i: usize, line: u32, number: u32, out: &mut [u8], at: usize) -> Part
-    requires { (length s.now ≤ 2 ^ 20) × (at ≤ 2 ^ 50) × (length out.old ≤ 2 ^ 20) }
-    ensures part_near { PartNear out.old out.new at (2 ^ 24) result }
-    ensures step { (y : Yaml) → Ranged y → Stands s.now i (encode y)
-        → AgreesPart (step_at line number y) step_item out.old out.new at result }
+/// The step that an item is, in this line and with this number, written as its item.
+pub fn step_at(
+    s: &[u8],
+    item: Item,
+    line: u32,
+    number: u32,
+    writer: &mut RecordWriter<'_>,
+) -> Result<(), Refusal>
+    requires { length s.now ≤ 2 ^ 20 }
+    ensures goes { Goes writer.old writer.new }
+    ensures step { (y : Yaml) → Ranged y → IsItem s.now y item
+        → AgreesPart (step_at line number y) step_item writer.old writer.new result }
 {
-    match read_step(s, i, line, number) {
-        StepRead::Step(places) => Part::Done(put_step(s, places, out, at)),
-        StepRead::Refused(refusal) => Part::Refused(refusal),
-    }
+    let places = read_item(s, item, line, number)?;
+    put_step(s, places, writer);
+    Ok(())
 }

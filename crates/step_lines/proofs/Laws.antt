@@ -4,13 +4,13 @@ use Prim.Native.Nat.{ℕ, ◌+◌, ◌≤◌, ◌<◌}
 use native.Mathlib.Omega.{arith}
 use mathlib.Core.List.{List, [], ◌∷◌}
 use mathlib.Core.Bool.{true, false}
-use lib.ListN.{drop}
+use lib.ListN.{length, drop}
 use borrow.Author.Tests.{eq-eqb, ne_eqb, lt-ltb, le-ltb}
 use Rattle.refusal.specs.Base.{bytes, same}
 use Rattle.lines.specs.Lines.{Line}
-use Rattle.lines.specs.Table.{table_lines, line_at}
+use Rattle.lines.specs.Table.{line_at}
 use Rattle.lines.specs.Dash.{is_dash}
-use Rattle.lines.proofs.Rows.{rows_end, rows_next}
+use Rattle.lines.proofs.Rows.{lines_end, lines_next}
 use Rattle.step_lines.specs.declared.Dashes.{Dashes}
 use Rattle.step_lines.specs.declared.StepLine.{StepLine}
 use Rattle.step_lines.specs.StepLines.{is_steps, behind_steps, dashes_at, dashes_from, step_lines, head_line, tail_lines}
@@ -25,65 +25,62 @@ module _ (l : Line) where
   unfolding is_steps
   are-steps e = rw (eq-eqb l.indent 0 e)
 
-module _ (text table : List ℕ) (count : ℕ) where
-  abbrev ls : List Line
-  ls = table_lines text table count
-
+module _ (ls : List Line) where
   -- ---- the line of the steps
 
-  pub steps-here : (i : ℕ) → i < count → is_steps (line_at text table i) ≡ true → behind_steps (drop i ls) ≡ drop (i + 1) ls
+  pub steps-here : (i : ℕ) → i < length ls → is_steps (line_at ls i) ≡ true → behind_steps (drop i ls) ≡ drop (i + 1) ls
   unfolding behind_steps
-  steps-here i h e = ap behind_steps (rows_next text table count i h) ∙ rw e
+  steps-here i h e = ap behind_steps (lines_next ls i h) ∙ rw e
 
-  pub steps_on : (i : ℕ) → i < count → is_steps (line_at text table i) ≡ false → behind_steps (drop i ls) ≡ behind_steps (drop (i + 1) ls)
+  pub steps_on : (i : ℕ) → i < length ls → is_steps (line_at ls i) ≡ false → behind_steps (drop i ls) ≡ behind_steps (drop (i + 1) ls)
   unfolding behind_steps
-  steps_on i h e = ap behind_steps (rows_next text table count i h) ∙ rw e
+  steps_on i h e = ap behind_steps (lines_next ls i h) ∙ rw e
 
-  pub steps-none : (i : ℕ) → i ≡ count → behind_steps (drop i ls) ≡ drop i ls
+  pub steps-none : (i : ℕ) → i ≡ length ls → behind_steps (drop i ls) ≡ drop i ls
   unfolding behind_steps
-  steps-none i e = ap behind_steps (rows_end text table count i e) ∙ sym (rows_end text table count i e)
+  steps-none i e = ap behind_steps (lines_end ls i e) ∙ sym (lines_end ls i e)
 
-  pub begins-none : (d : Dashes) → d.at ≡ count → drop d.at ls ≡ behind_steps ls → Begins ls count d
+  pub begins-none : (d : Dashes) → d.at ≡ length ls → drop d.at ls ≡ behind_steps ls → Begins ls (length ls) d
   unfolding step_lines dashes_from dashes_at
   begins-none d e b =
-      let n : drop d.at ls ≡ [] = rows_end text table count d.at e in
+      let n : drop d.at ls ≡ [] = lines_end ls d.at e in
       record { is = ap dashes_from (sym b ∙ n) ∙ sym (ap (dashes_at d.indent) n); within = omega arith }
 
-  pub begins-at : (d : Dashes) → d.at < count → d.indent ≡ (line_at text table d.at).indent → drop d.at ls ≡ behind_steps ls → Begins ls count d
+  pub begins-at : (d : Dashes) → d.at < length ls → d.indent ≡ (line_at ls d.at).indent → drop d.at ls ≡ behind_steps ls → Begins ls (length ls) d
   unfolding step_lines dashes_from
   begins-at d h e b =
-      let n = rows_next text table count d.at h in
+      let n = lines_next ls d.at h in
       record {
-        is = ap dashes_from (sym b ∙ n) ∙ ap (λ (k : ℕ). dashes_at k (line_at text table d.at ∷ drop (d.at + 1) ls)) (sym e) ∙ ap (dashes_at d.indent) (sym n);
+        is = ap dashes_from (sym b ∙ n) ∙ ap (λ (k : ℕ). dashes_at k (line_at ls d.at ∷ drop (d.at + 1) ls)) (sym e) ∙ ap (dashes_at d.indent) (sym n);
         within = omega arith;
       }
 
   -- ---- the next dash
 
-  pub dash-on : (indent d : ℕ) → d < count → indent ≤ (line_at text table d).indent → is_dash indent (line_at text table d) ≡ false
+  pub dash-on : (indent d : ℕ) → d < length ls → indent ≤ (line_at ls d).indent → is_dash indent (line_at ls d) ≡ false
       → dashes_at indent (drop d ls) ≡ dashes_at indent (drop (d + 1) ls)
   unfolding dashes_at
-  dash-on indent d h k e = ap (dashes_at indent) (rows_next text table count d h) ∙ rw (le-ltb (line_at text table d).indent indent k, e)
+  dash-on indent d h k e = ap (dashes_at indent) (lines_next ls d h) ∙ rw (le-ltb (line_at ls d).indent indent k, e)
 
   module _ (indent i d : ℕ) (v : dashes_at indent (drop i ls) ≡ dashes_at indent (drop d ls)) where
-    none-next : dashes_at indent (drop d ls) ≡ [] → (r : StepLine) → r.line ≡ 0 → r.next ≡ count → Next ls count indent i r
+    none-next : dashes_at indent (drop d ls) ≡ [] → (r : StepLine) → r.line ≡ 0 → r.next ≡ length ls → Next ls (length ls) indent i r
     unfolding dashes_at head_line tail_lines
     none-next n r p q =
         let e : dashes_at indent (drop i ls) ≡ [] = v ∙ n in
-        record { is = p ∙ sym (ap head_line e); others = ap (dashes_at indent) (rows_end text table count r.next q) ∙ sym (ap tail_lines e); within = omega arith }
+        record { is = p ∙ sym (ap head_line e); others = ap (dashes_at indent) (lines_end ls r.next q) ∙ sym (ap tail_lines e); within = omega arith }
 
-    pub next-ended : d < count → (line_at text table d).indent < indent → (r : StepLine) → r.line ≡ 0 → r.next ≡ count → Next ls count indent i r
+    pub next-ended : d < length ls → (line_at ls d).indent < indent → (r : StepLine) → r.line ≡ 0 → r.next ≡ length ls → Next ls (length ls) indent i r
     unfolding dashes_at
-    next-ended h k r p q = none-next (ap (dashes_at indent) (rows_next text table count d h) ∙ rw (lt-ltb (line_at text table d).indent indent k)) r p q
+    next-ended h k r p q = none-next (ap (dashes_at indent) (lines_next ls d h) ∙ rw (lt-ltb (line_at ls d).indent indent k)) r p q
 
-    pub next-none : d ≡ count → (r : StepLine) → r.line ≡ 0 → r.next ≡ count → Next ls count indent i r
+    pub next-none : d ≡ length ls → (r : StepLine) → r.line ≡ 0 → r.next ≡ length ls → Next ls (length ls) indent i r
     unfolding dashes_at
-    next-none e r p q = none-next (ap (dashes_at indent) (rows_end text table count d e)) r p q
+    next-none e r p q = none-next (ap (dashes_at indent) (lines_end ls d e)) r p q
 
-    pub next_here : d < count → indent ≤ (line_at text table d).indent → is_dash indent (line_at text table d) ≡ true
-        → (r : StepLine) → r.line ≡ (line_at text table d).number → r.next ≡ d + 1 → Next ls count indent i r
+    pub next_here : d < length ls → indent ≤ (line_at ls d).indent → is_dash indent (line_at ls d) ≡ true
+        → (r : StepLine) → r.line ≡ (line_at ls d).number → r.next ≡ d + 1 → Next ls (length ls) indent i r
     unfolding dashes_at head_line tail_lines
     next_here h k e r p q =
-        let w : dashes_at indent (drop i ls) ≡ (line_at text table d).number ∷ dashes_at indent (drop (d + 1) ls) =
-        v ∙ ap (dashes_at indent) (rows_next text table count d h) ∙ rw (le-ltb (line_at text table d).indent indent k, e) in
+        let w : dashes_at indent (drop i ls) ≡ (line_at ls d).number ∷ dashes_at indent (drop (d + 1) ls) =
+        v ∙ ap (dashes_at indent) (lines_next ls d h) ∙ rw (le-ltb (line_at ls d).indent indent k, e) in
         record { is = p ∙ sym (ap head_line w); others = ap (λ (n : ℕ). dashes_at indent (drop n ls)) q ∙ sym (ap tail_lines w); within = omega arith }

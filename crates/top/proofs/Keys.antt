@@ -8,6 +8,7 @@ use lib.ListN.{take, drop}
 use Rattle.refusal.specs.Base.{one_of}
 use Rattle.item.specs.Tree.{Entries}
 use Rattle.entries.specs.Entries.{Lies}
+use Rattle.entries.specs.declared.Pair.{Pair}
 use Rattle.entries.proofs.Walking.{no_more, Turn}
 use Rattle.meaning.specs.Meanings.{top_keys, known_keys, refuse}
 use Rattle.top.specs.Contract.{KnownKeys}
@@ -21,15 +22,15 @@ pub record KnownRest (s : List ℕ) (to at : ℕ) (es : Entries) : Type 0 where
 pub known_start : {s : List ℕ} {to at : ℕ} (es : Entries) → Lies s at to es → KnownRest s to at es
 known_start es h = record { rest = es; lies = h; is = refl }
 
-module _ {s : List ℕ} {to at start stop kind next : ℕ} {es : Entries} (k : KnownRest s to at es) (t : Turn s at to k.rest start stop kind next) where
-  here : {b : Bool} → b ≡ one_of (take (stop - start) (drop start s)) top_keys → known_keys es ≡ (if b then known_keys t.entry.others else refuse 22)
+module _ {s : List ℕ} {to at : ℕ} {p : Pair} {es : Entries} (k : KnownRest s to at es) (t : Turn s at to k.rest p) where
+  here : {b : Bool} → b ≡ one_of (take (p.end - p.start) (drop p.start s)) top_keys → known_keys es ≡ (if b then known_keys t.entry.others else refuse 22)
   unfolding known_keys
   here e = k.is ∙ ap known_keys t.entry.is ∙ rw (ap (λ (l : List ℕ). one_of l top_keys) (sym t.key_is) ∙ sym e)
 
-  pub known-false : false ≡ one_of (take (stop - start) (drop start s)) top_keys → KnownKeys es false
+  pub known-false : false ≡ one_of (take (p.end - p.start) (drop p.start s)) top_keys → KnownKeys es false
   known-false e = here e
 
-  pub known_on : true ≡ one_of (take (stop - start) (drop start s)) top_keys → KnownRest s to next es
+  pub known_on : true ≡ one_of (take (p.end - p.start) (drop p.start s)) top_keys → KnownRest s to p.next es
   known_on e = record { rest = t.entry.others; lies = t.behind; is = here e }
 
 pub known-done : {s : List ℕ} {to at : ℕ} {es : Entries} → KnownRest s to at es → to ≤ at → KnownKeys es true

@@ -1,77 +1,67 @@
 -- The walk along the tags. Assumes nothing.
-use mathlib.Core.Path.{◌≡◌, refl, sym, ap, ◌∙◌, subst}
-use Prim.Native.Nat.{ℕ, ◌+◌, ◌-◌, ◌≤◌}
+use mathlib.Core.Path.{◌≡◌, refl, sym, ap, ◌∙◌}
+use Prim.Native.Nat.{ℕ, ◌≤◌, ◌-◌, ◌^◌}
 use mathlib.Core.List.{List, [], ◌++◌, map, append_assoc, append-nil}
-use mathlib.Core.Option.{Option, none, some}
-use lib.ListN.{length}
-use lib.Seq.{sets}
-use Rattle.item.specs.Tree.{Yaml, Items, ◌▸◌, Ranged}
-use Rattle.item.specs.Encode.{head, item, encode}
+use mathlib.Core.Option.{none, some}
+use Rattle.item.specs.Tree.{Yaml, Items, ◌▸◌}
+use Rattle.item.specs.Encode.{item, encode}
+use Rattle.item.specs.declared.Item.{Item}
 use Rattle.scalar.specs.Scalars as scalar
-use Rattle.entries.specs.Entries.{Stands, Holds}
-use Rattle.entries.proofs.Walking.{no-more-items, ItemTurn}
-use Rattle.nodes.specs.declared.Rendered.{Rendered}
-use Rattle.nodes.specs.declared.Rendered.TheVariants.{Text, NoScalar}
-use Rattle.nodes.specs.Contract.{Stored, RendersAs}
-use Rattle.nodes.proofs.Storing.{stored-then, stored-nothing, stored_is, stored-item}
+use Rattle.entries.specs.Entries.{Holds}
+use Rattle.entries.proofs.Walking.{no-more-items}
+use Rattle.nodes.specs.declared.output.RecordWriter.{RecordWriter}
+use Rattle.nodes.specs.Writing.{Writes, Opens, Closes}
+use Rattle.nodes.proofs.Items.{ItemTurn}
+use Rattle.nodes.proofs.Writing.{writes_is, writes_more, writes_none, writes_item}
 use Rattle.meaning.specs.Record.{joined, text_item, tags_item}
 use Rattle.meaning.specs.Meanings.{cons_text, texts_of}
 
 abbrev tags_of : Items → List ℕ
 tags_of ys = joined (map text_item (texts_of ys))
 
--- the tags before those that are left are stored
-pub record TagsRest (s : List ℕ) (to i : ℕ) (ys : Items) (old new : List ℕ) (start p : ℕ) : Type 0 where
+-- the tags before those that are left are written
+pub record TagsRest (s : List ℕ) (to at : ℕ) (ys : Items) (old new : RecordWriter) : Type 0 where
   pub rest : Items
   pub front : List ℕ
-  pub holds : Holds s i to rest
+  pub holds : Holds s at to rest
   pub is : tags_of ys ≡ front ++ tags_of rest
-  pub stored : Stored old new start front p
+  pub writes : Writes old new front
 
-pub tags-start : {s out : List ℕ} {to i start : ℕ} (ys : Items) → Holds s i to ys → TagsRest s to i ys out out start start
-tags-start ys h = record { rest = ys; front = []; holds = h; is = refl; stored = stored-nothing refl }
+pub tags-start : {s : List ℕ} {to at : ℕ} {w : RecordWriter} (ys : Items) → Holds s at to ys → w.end ≤ 2 ^ 64 - 1 → TagsRest s to at ys w w
+tags-start ys h e = record { rest = ys; front = []; holds = h; is = refl; writes = writes_none e }
 
-text-tag : (y : Yaml) (ys : Items) {old new : List ℕ} {p e : ℕ} (t : Option (List ℕ)) → scalar.key_text y ≡ t → RendersAs t old new p (Text e) → (more : List ℕ) × (tags_of (y ▸ ys) ≡ more ++ tags_of ys) × Stored old new p more e
+with-tag : (y : Yaml) (ys : Items) (t : List ℕ) → some t ≡ scalar.key_text y → tags_of (y ▸ ys) ≡ item 3 t ++ tags_of ys
 unfolding texts_of cons_text joined text_item encode
-text-tag y ys (some t) q h = (item 3 t, rw q, h)
-text-tag y ys none q h = absurd h
+with-tag y ys t q = rw (← q) refl
 
-no-tag : (y : Yaml) (ys : Items) (old new : List ℕ) (p : ℕ) (t : Option (List ℕ)) → scalar.key_text y ≡ t → RendersAs t old new p NoScalar → (tags_of (y ▸ ys) ≡ tags_of ys) × (new ≡ old)
+without-tag : (y : Yaml) (ys : Items) → none ≡ scalar.key_text y → tags_of (y ▸ ys) ≡ tags_of ys
 unfolding texts_of cons_text
-no-tag y ys old new p (some t) q h = absurd h
-no-tag y ys old new p none q h = (rw q, h)
+without-tag y ys q = rw (← q) refl
 
-module _ {s old mid : List ℕ} {to i start p next : ℕ} {ys : Items} (k : TagsRest s to i ys old mid start p) (t : ItemTurn s i to k.rest next) where
-  this : (new : List ℕ) {r r' : Rendered} → r ≡ r' → ((y : Yaml) → Ranged y → Stands s i (encode y) → RendersAs (scalar.key_text y) mid new p r) → RendersAs (scalar.key_text t.item.y) mid new p r'
-  this new e promise = subst (RendersAs (scalar.key_text t.item.y) mid new p) e (promise t.item.y t.item.ranged t.item.value)
+module _ {s : List ℕ} {old mid : RecordWriter} {to at : ℕ} {i : Item} {ys : Items} (k : TagsRest s to at ys old mid) (t : ItemTurn s at to k.rest i) where
+  left_is : tags_of ys ≡ k.front ++ tags_of (t.first.y ▸ t.first.others)
+  left_is = k.is ∙ ap (λ (zs : Items). k.front ++ tags_of zs) t.first.is
 
-  left_is : tags_of ys ≡ k.front ++ tags_of (t.item.y ▸ t.item.others)
-  left_is = k.is ∙ ap (λ (zs : Items). k.front ++ tags_of zs) t.item.is
+  pub tag-on : {new : RecordWriter} {text : List ℕ} → some text ≡ scalar.key_text t.first.y → Writes mid new (item 3 text) → TagsRest s to i.to ys old new
+  tag-on {new} {text} q w = record {
+    rest = t.first.others;
+    front = k.front ++ item 3 text;
+    holds = t.behind;
+    is = left_is ∙ ap (λ (b : List ℕ). k.front ++ b) (with-tag t.first.y t.first.others text q) ∙ sym (append_assoc k.front (item 3 text) (tags_of t.first.others));
+    writes = writes_more k.writes w;
+  }
 
-  pub tag-on : {new : List ℕ} {r : Rendered} {e : ℕ} → r ≡ Text e → ((y : Yaml) → Ranged y → Stands s i (encode y) → RendersAs (scalar.key_text y) mid new p r) → TagsRest s to next ys old new start e
-  tag-on {new} q promise =
-      let a = text-tag t.item.y t.item.others (scalar.key_text t.item.y) refl (this new q promise) in
-      record {
-        rest = t.item.others;
-        front = k.front ++ a.0;
-        holds = t.behind;
-        is = left_is ∙ ap (λ (b : List ℕ). k.front ++ b) a.1 ∙ sym (append_assoc k.front a.0 (tags_of t.item.others));
-        stored = stored-then k.front a.0 k.stored a.2;
-      }
+  pub no-tag-on : none ≡ scalar.key_text t.first.y → TagsRest s to i.to ys old mid
+  no-tag-on q = record {
+    rest = t.first.others;
+    front = k.front;
+    holds = t.behind;
+    is = left_is ∙ ap (λ (b : List ℕ). k.front ++ b) (without-tag t.first.y t.first.others q);
+    writes = k.writes;
+  }
 
-  pub no-tag-on : {new : List ℕ} {r : Rendered} → r ≡ NoScalar → ((y : Yaml) → Ranged y → Stands s i (encode y) → RendersAs (scalar.key_text y) mid new p r) → TagsRest s to next ys old new start p
-  no-tag-on {new} q promise =
-      let a = no-tag t.item.y t.item.others mid new p (scalar.key_text t.item.y) refl (this new q promise) in
-      record {
-        rest = t.item.others;
-        front = k.front;
-        holds = t.behind;
-        is = left_is ∙ ap (λ (b : List ℕ). k.front ++ b) a.0;
-        stored = subst (λ (l : List ℕ). Stored old l start k.front p) (sym a.1) k.stored;
-      }
-
-pub tags-done : {s old mid new : List ℕ} {to i at p : ℕ} {ys : Items} → to ≤ i → TagsRest s to i ys old mid (at + 6) p → (p ≤ length mid → new ≡ sets mid at (head 4 (p - at - 6))) → length new ≡ length mid → Stored old new at (tags_item (texts_of ys)) p
+pub tags-done : {s : List ℕ} {a old mid new : RecordWriter} {header to at : ℕ} {ys : Items} → to ≤ at → Opens a old header → TagsRest s to at ys old mid → Closes mid new header 4 → Writes a new (tags_item (texts_of ys))
 unfolding tags_item joined texts_of
-tags-done {ys = ys} m k g l =
+tags-done {ys = ys} m o k c =
     let e : k.front ≡ tags_of ys = sym (k.is ∙ ap (λ (zs : Items). k.front ++ tags_of zs) (no-more-items k.rest m k.holds) ∙ append-nil k.front) in
-    stored_is (ap (item 4) e) (stored-item 4 k.front k.stored g l)
+    writes_is (ap (item 4) e) (writes_item o k.writes c)

@@ -1,386 +1,285 @@
-// The top keys of a scenario in the bytes of its tree (document 01, section 4): where their parts stand, and from there the fields of
-// its record. Reading writes nothing, and writing refuses nothing. Of at most 2 ^ 20 items each is written in at most 2 ^ 21 bytes, so
-// the fields take less than 2 ^ 42.
+// The top keys of a scenario in the bytes of its tree: where their parts stand, and from there the fields of its record. Reading writes
+// nothing, and writing refuses nothing.
 #![tactic(auto)]
 
-ghost use Rattle.std.specs.Prelude.{◌≡◌, ◌+◌, ◌*◌, ◌-◌, ◌≤◌, ◌^◌, length};
+ghost use Rattle.std.specs.Prelude.{◌≡◌, ◌≤◌, ◌^◌, IfOk, IfSome, length};
 ghost use Rattle.std.proofs.Math.Option.{Option};
+ghost use Rattle.refusal.specs.Base.{same};
 ghost use Rattle.utf8.specs.Part.{part};
-ghost use Rattle.item.specs.Tree.{Yaml, Items, Entries, Ranged};
+ghost use Rattle.item.specs.Tree as trees;
+ghost use Rattle.item.specs.Tree.{Yaml, Entries, Ranged};
 ghost use Rattle.item.specs.Encode as items;
 ghost use Rattle.item.specs.Encode.{encode};
 ghost use Rattle.entries.specs.Entries.{Stands, Holds, Finds};
-ghost use Rattle.nodes.specs.Contract.{Stored, ReadsFound};
+ghost use Rattle.nodes.specs.Writing.{Goes, Writes};
+ghost use Rattle.nodes.specs.Contract.{or_null, text_of};
 ghost use Rattle.meaning.specs.Meaning as meaning;
 ghost use Rattle.meaning.specs.Record.{joined, tags_item, defaults_item};
-ghost use Rattle.meaning.specs.Meanings.{Top, texts_of, no_defaults, defaults_from, defaults_of, top_of};
-ghost use Rattle.top.specs.Contract.{or_null, scalar_text, TopStands, AgreesTop, RangeInside, TopPlacesInside, TopInside, top_fields};
-ghost use Rattle.top.specs.Contract.{IsValue, KnownKeys, AgreesScalar, is_schema, Passed, AgreesSequence, SequenceInside};
-ghost use Rattle.top.specs.Contract.{default_key, AgreesDefaults, DefaultsInside};
+ghost use Rattle.meaning.specs.Meanings.{schema, Top, texts_of, no_defaults, defaults_from, defaults_of, top_of};
+ghost use Rattle.top.specs.Contract.{TopStands, AgreesTop, RangeInside, TopPlacesInside, DefaultsInside, top_fields};
+ghost use Rattle.top.specs.Contract.{IsValue, KnownKeys, Passed, AgreesSequence, default_key, DefaultsStand, AgreesDefaults};
 
-use entries::{Pair, Span, find, item_at, pair_at};
-use item::{Found, Header, header_at, same_bytes};
+use entries::{Pairs, find};
+use item::{Found, Item, Items, Kind, same_bytes};
 use meaning::is_top_key;
-use nodes::{Rendered, close, put, put_found, put_optional, put_value, render};
+use nodes::{
+    RecordWriter, Scalar, item_found, put_found, put_optional, put_value, scalar_found, scalar_of,
+};
 use refusal::Refusal;
 
-// A value by its kind and the places of its content.
-#[derive(Clone, Copy)]
-struct Value {
-    kind: usize,
-    from: usize,
-    to: usize,
-}
-
-// Where items stand one behind another.
-#[derive(Clone, Copy)]
+/// Where items stand one behind another.
+#[derive(Clone, Copy, Debug, PartialEq, Eq)]
 pub struct Range {
     pub from: usize,
     pub to: usize,
 }
 
-// The items of a sequence, or that a value is none.
-#[derive(Clone, Copy)]
-enum Sequence {
-    Items(Range),
-    Other,
+/// Where the two defaults stand.
+#[derive(Clone, Copy, Debug, PartialEq, Eq)]
+pub struct DefaultPlaces {
+    pub timeout: Found,
+    pub wall_budget: Found,
 }
 
-// Where the two defaults stand, or why they are refused.
-#[derive(Clone, Copy)]
-enum Defaults {
-    Places { timeout: Found, wall_budget: Found },
-    Refused(Refusal),
-}
-
-// Which default a key is.
-#[derive(Clone, Copy)]
-enum Default {
+// The keys of the defaults.
+#[derive(Clone, Copy, Debug, PartialEq, Eq)]
+enum DefaultKey {
     Timeout,
     WallBudget,
-    Unknown,
 }
 
-// Where the parts of a scenario stand.
-#[derive(Clone, Copy)]
+/// Where the parts of a scenario stand.
+#[derive(Clone, Copy, Debug, PartialEq, Eq)]
 pub struct TopPlaces {
     pub name: Found,
     pub description: Found,
     pub tags: Range,
     pub image: Found,
     pub setup: Found,
-    pub timeout: Found,
-    pub wall_budget: Found,
+    pub defaults: DefaultPlaces,
     pub fail_on: Range,
     pub steps: Range,
 }
 
-// What reading the top keys answers.
-#[derive(Clone, Copy)]
-pub enum TopRead {
-    Done(TopPlaces),
-    Refused(Refusal),
-}
-
 // What was looked for. A key that is absent is read as null.
-fn value_of(s: &[u8], found: Found) -> Value
+fn value_of(s: &[u8], found: Found) -> Item
     requires { length s.now ≤ 2 ^ 20 }
-    ensures from_le_to { (result.from ≤ result.to) × (result.to ≤ length s.now) }
+    ensures inside { (result.from ≤ result.to) × (result.to ≤ length s.now) }
     ensures value { (o : Option Yaml) → Finds s.now o found → IsValue s.now (or_null o) result }
 {
-    let null = Value {
-        kind: 0,
+    item_found(s, found).unwrap_or(Item {
+        kind: Kind::Null as usize,
         from: 0,
         to: 0,
-    };
-    let Found::At(p) = found else {
-        return null;
-    };
-    let head = header_at(s, p);
-    let Header::Item { kind, from, to } = head else {
-        return null;
-    };
-    Value { kind, from, to }
+    })
 }
 
 fn known_keys(s: &[u8], from: usize, to: usize) -> bool
     requires { (length s.now ≤ 2 ^ 20) × (to ≤ length s.now) }
     ensures { (es : Entries) → Holds s.now from to es → KnownKeys es result }
 {
-    let mut at = from;
-    while at < to {
-        let pair = pair_at(s, at);
-        let Pair::At {
-            start,
-            end,
-            kind: _,
-            next,
-        } = pair
-        else {
+    for pair in Pairs::within(s, from, to) {
+        let Ok(pair) = pair else {
             return false;
         };
-        if !is_top_key(&s[start..end]) {
+        if !is_top_key(&s[pair.start..pair.end]) {
             return false;
         }
-        at = next;
-    }
-    true
-}
-
-fn is_scalar(s: &[u8], found: Found) -> bool
-    requires { length s.now ≤ 2 ^ 20 }
-    ensures { (o : Option Yaml) → Finds s.now o found → AgreesScalar (scalar_text o) result }
-{
-    let value = value_of(s, found);
-    if value.kind == 0 {
-        return false;
-    }
-    if value.kind > 3 {
-        return false;
     }
     true
 }
 
 // Only a string can be it: no text of a boolean or an integer is.
-fn is_schema(s: &[u8], found: Found) -> bool
-    requires { length s.now ≤ 2 ^ 20 }
-    ensures { (o : Option Yaml) → Finds s.now o found → result ≡ is_schema (scalar_text o) }
+fn is_schema(scalar: Scalar<'_>) -> bool
+    ensures { result ≡ same (text_of scalar.entry) schema }
 {
-    let value = value_of(s, found);
-    if value.kind != 3 {
+    let Scalar::Str(text) = scalar else {
         return false;
-    }
-    let from = value.from;
-    let to = value.to;
-    same_bytes(&s[from..to], b"passportsim/scenario@1")
+    };
+    same_bytes(text, b"passportsim/scenario@1")
 }
 
 // The items of a sequence; null has none.
-fn sequence_of(s: &[u8], found: Found) -> Sequence
+fn sequence_of(s: &[u8], found: Found) -> Option<Range>
     requires { length s.now ≤ 2 ^ 20 }
-    ensures sequence_inside { SequenceInside s.now result }
+    ensures inside { IfSome result (RangeInside s.now) }
     ensures items { (o : Option Yaml) → Finds s.now o found → AgreesSequence s.now o result }
 {
     let value = value_of(s, found);
-    let items = Range {
+    let is_null = value.kind == Kind::Null as usize;
+    let is_sequence = value.kind == Kind::Seq as usize;
+    if !is_null && !is_sequence {
+        return None;
+    }
+    Some(Range {
         from: value.from,
         to: value.to,
-    };
-    if value.kind == 0 {
-        return Sequence::Items(items);
-    }
-    if value.kind == 4 {
-        return Sequence::Items(items);
-    }
-    Sequence::Other
+    })
 }
 
-fn default_of(key: &[u8]) -> Default
-    ensures { result ≡ default_key key.now }
-{
-    if same_bytes(key, b"timeout") {
-        return Default::Timeout;
+impl DefaultKey {
+    // Word by word, since a `match` on byte strings may call `memcmp`, which libraries do not.
+    fn of(key: &[u8]) -> Option<DefaultKey>
+        ensures { result ≡ default_key key.now }
+    {
+        if same_bytes(key, b"timeout") {
+            Some(DefaultKey::Timeout)
+        } else if same_bytes(key, b"wall_budget") {
+            Some(DefaultKey::WallBudget)
+        } else {
+            None
+        }
     }
-    if same_bytes(key, b"wall_budget") {
-        return Default::WallBudget;
-    }
-    Default::Unknown
 }
 
-fn defaults_in(s: &[u8], from: usize, to: usize) -> Defaults
+fn defaults_in(s: &[u8], from: usize, to: usize) -> Result<DefaultPlaces, Refusal>
     requires { (length s.now ≤ 2 ^ 20) × (to ≤ length s.now) }
-    ensures defaults_inside { DefaultsInside s.now result }
+    ensures inside { IfOk result (DefaultsInside s.now) }
     ensures defaults { (es : Entries) → Holds s.now from to es
         → AgreesDefaults s.now (defaults_from no_defaults es) result }
 {
-    let mut at = from;
     let mut timeout = Found::Nothing;
     let mut wall_budget = Found::Nothing;
-    while at < to {
-        let pair = pair_at(s, at);
-        let Pair::At {
-            start,
-            end,
-            kind,
-            next,
-        } = pair
-        else {
-            return Defaults::Refused(Refusal::UnknownDefault);
+    for pair in Pairs::within(s, from, to) {
+        let Ok(pair) = pair else {
+            return Err(Refusal::UnknownDefault);
         };
-        match default_of(&s[start..end]) {
-            Default::Timeout => timeout = Found::At(end),
-            Default::WallBudget => wall_budget = Found::At(end),
-            Default::Unknown => return Defaults::Refused(Refusal::UnknownDefault),
+        let Some(key) = DefaultKey::of(&s[pair.start..pair.end]) else {
+            return Err(Refusal::UnknownDefault);
+        };
+        match key {
+            DefaultKey::Timeout => timeout = Found::At(pair.end),
+            DefaultKey::WallBudget => wall_budget = Found::At(pair.end),
         }
-        if kind > 3 {
-            return Defaults::Refused(Refusal::DefaultNotScalar);
+        let is_collection = pair.kind > Kind::Str as usize;
+        if is_collection {
+            return Err(Refusal::DefaultNotScalar);
         }
-        at = next;
     }
-    Defaults::Places {
+    Ok(DefaultPlaces {
         timeout,
         wall_budget,
-    }
+    })
 }
 
-fn defaults_of(s: &[u8], found: Found) -> Defaults
+fn defaults_of(s: &[u8], found: Found) -> Result<DefaultPlaces, Refusal>
     requires { length s.now ≤ 2 ^ 20 }
-    ensures defaults_inside { DefaultsInside s.now result }
+    ensures inside { IfOk result (DefaultsInside s.now) }
     ensures defaults { (o : Option Yaml) → Finds s.now o found → AgreesDefaults s.now (defaults_of o) result }
 {
     let value = value_of(s, found);
-    if value.kind == 0 {
-        return Defaults::Places {
+    let is_null = value.kind == Kind::Null as usize;
+    if is_null {
+        return Ok(DefaultPlaces {
             timeout: Found::Nothing,
             wall_budget: Found::Nothing,
-        };
+        });
     }
-    if value.kind == 5 {
-        return defaults_in(s, value.from, value.to);
+    let is_mapping = value.kind == Kind::Map as usize;
+    if !is_mapping {
+        return Err(Refusal::DefaultsNotMapping);
     }
-    Defaults::Refused(Refusal::DefaultsNotMapping)
+    defaults_in(s, value.from, value.to)
 }
 
 // 25 to 31, of the entries from `from` to `to`.
-fn read_fields(s: &[u8], from: usize, to: usize) -> TopRead
+fn read_fields(s: &[u8], from: usize, to: usize) -> Result<TopPlaces, Refusal>
     requires { (length s.now ≤ 2 ^ 20) × (to ≤ length s.now) }
-    ensures top_inside { TopInside s.now result }
+    ensures inside { IfOk result (TopPlacesInside s.now) }
     ensures fields { (y : Yaml) (es : Entries) → Passed y es → Holds s.now from to es
         → AgreesTop s.now (top_of y) result }
 {
     let name = find(s, from, to, b"name");
-    if !is_scalar(s, name) {
-        return TopRead::Refused(Refusal::NoName);
-    }
-    let Sequence::Items(tags) = sequence_of(s, find(s, from, to, b"tags")) else {
-        return TopRead::Refused(Refusal::TagsNotSequence);
-    };
-    let Sequence::Items(fail_on) = sequence_of(s, find(s, from, to, b"fail_on")) else {
-        return TopRead::Refused(Refusal::FailOnNotSequence);
-    };
-    match defaults_of(s, find(s, from, to, b"defaults")) {
-        Defaults::Refused(e) => TopRead::Refused(e),
-        Defaults::Places {
-            timeout,
-            wall_budget,
-        } => {
-            let Sequence::Items(steps) = sequence_of(s, find(s, from, to, b"steps")) else {
-                return TopRead::Refused(Refusal::StepsNotSequence);
-            };
-            TopRead::Done(TopPlaces {
-                name,
-                description: find(s, from, to, b"description"),
-                tags,
-                image: find(s, from, to, b"image"),
-                setup: find(s, from, to, b"setup"),
-                timeout,
-                wall_budget,
-                fail_on,
-                steps,
-            })
-        }
-    }
+    scalar_found(s, name).ok_or(Refusal::NoName)?;
+    let tags = sequence_of(s, find(s, from, to, b"tags")).ok_or(Refusal::TagsNotSequence)?;
+    let fail_on = sequence_of(s, find(s, from, to, b"fail_on")).ok_or(Refusal::FailOnNotSequence)?;
+    let defaults = defaults_of(s, find(s, from, to, b"defaults"))?;
+    let steps = sequence_of(s, find(s, from, to, b"steps")).ok_or(Refusal::StepsNotSequence)?;
+    Ok(TopPlaces {
+        name,
+        description: find(s, from, to, b"description"),
+        tags,
+        image: find(s, from, to, b"image"),
+        setup: find(s, from, to, b"setup"),
+        defaults,
+        fail_on,
+        steps,
+    })
 }
 
-// 21 to 31, of the tree that stands at the front.
-pub fn read_top(s: &[u8]) -> TopRead
+/// 21 to 31, of the tree that stands at the front.
+pub fn read_top(s: &[u8]) -> Result<TopPlaces, Refusal>
     requires { length s.now ≤ 2 ^ 20 }
-    ensures top_inside { TopInside s.now result }
+    ensures inside { IfOk result (TopPlacesInside s.now) }
     ensures top { (y : Yaml) → Ranged y → Stands s.now 0 (encode y) → AgreesTop s.now (top_of y) result }
 {
     let tree = value_of(s, Found::At(0));
-    if tree.kind != 5 {
-        return TopRead::Refused(Refusal::DocumentNotMapping);
+    let is_mapping = tree.kind == Kind::Map as usize;
+    if !is_mapping {
+        return Err(Refusal::DocumentNotMapping);
     }
-    let from = tree.from;
-    let to = tree.to;
-    if !known_keys(s, from, to) {
-        return TopRead::Refused(Refusal::UnknownTopKey);
+    if !known_keys(s, tree.from, tree.to) {
+        return Err(Refusal::UnknownTopKey);
     }
-    let schema = find(s, from, to, b"schema");
-    if !is_scalar(s, schema) {
-        return TopRead::Refused(Refusal::NoSchema);
+    let schema = scalar_found(s, find(s, tree.from, tree.to, b"schema")).ok_or(Refusal::NoSchema)?;
+    if !is_schema(schema) {
+        return Err(Refusal::OtherSchema);
     }
-    if !is_schema(s, schema) {
-        return TopRead::Refused(Refusal::OtherSchema);
-    }
-    read_fields(s, from, to)
+    read_fields(s, tree.from, tree.to)
 }
 
 // The items of a sequence as they stand.
-fn put_sequence(s: &[u8], range: Range, out: &mut [u8], at: usize) -> usize
-    requires { RangeInside s.now range × (length s.now ≤ 2 ^ 20) × (at ≤ 2 ^ 50) × (length out.old ≤ 2 ^ 20) }
-    ensures { Stored out.old out.new at (items.item 4 (part s.now range.from range.to)) result }
+fn put_sequence(s: &[u8], range: Range, writer: &mut RecordWriter<'_>)
+    requires { RangeInside s.now range }
+    ensures { Writes writer.old writer.new (items.item 4 (part s.now range.from range.to)) }
 {
-    let from = range.from;
-    let to = range.to;
-    let end = put(out, at + 6, &s[from..to]);
-    close(out, at, 4, end);
-    end
+    let header = writer.open();
+    writer.put(&s[range.from..range.to]);
+    writer.close(header, Kind::Seq);
 }
 
 // The texts of a sequence's scalars.
-fn put_tags(s: &[u8], range: Range, out: &mut [u8], at: usize) -> usize
-    requires { RangeInside s.now range × (length s.now ≤ 2 ^ 20) × (at ≤ 2 ^ 50) × (length out.old ≤ 2 ^ 20) }
-    ensures near { (at ≤ result) × (result ≤ at + 6 + 2 ^ 21 * (range.to - range.from))
-        × (length out.new ≡ length out.old) }
-    ensures tags { (ys : Items) → Holds s.now range.from range.to ys
-        → Stored out.old out.new at (tags_item (texts_of ys)) result }
+fn put_tags(s: &[u8], range: Range, writer: &mut RecordWriter<'_>)
+    requires { RangeInside s.now range × (length s.now ≤ 2 ^ 20) }
+    ensures goes { Goes writer.old writer.new }
+    ensures tags { (ys : trees.Items) → Holds s.now range.from range.to ys
+        → Writes writer.old writer.new (tags_item (texts_of ys)) }
 {
-    let mut i = range.from;
-    let mut p = at + 6;
-    while i < range.to {
-        let item = item_at(s, i);
-        let Span::At {
-            start: _,
-            end: next,
-        } = item
-        else {
-            return p;
+    let header = writer.open();
+    for item in Items::within(s, range.from, range.to) {
+        let Ok(item) = item else {
+            break;
         };
-        match render(s, i, out, p) {
-            Rendered::Text(end) => p = end,
-            Rendered::NoScalar => {}
+        if let Some(scalar) = scalar_of(s, item) {
+            writer.scalar(scalar);
         }
-        i = next;
     }
-    close(out, at, 4, p);
-    p
+    writer.close(header, Kind::Seq);
 }
 
-fn put_defaults(s: &[u8], timeout: Found, wall_budget: Found, out: &mut [u8], at: usize) -> usize
-    requires { (length s.now ≤ 2 ^ 20) × (at ≤ 2 ^ 50) × (length out.old ≤ 2 ^ 20) }
-    ensures near { (at ≤ result) × (result ≤ at + 2 ^ 22 + 6) × (length out.new ≡ length out.old) }
-    ensures defaults { (d : meaning.Defaults) → ReadsFound s.now scalar_text timeout d.timeout
-        → ReadsFound s.now scalar_text wall_budget d.wall_budget
-        → Stored out.old out.new at (defaults_item d) result }
+fn put_defaults(s: &[u8], places: DefaultPlaces, writer: &mut RecordWriter<'_>)
+    requires { length s.now ≤ 2 ^ 20 }
+    ensures goes { Goes writer.old writer.new }
+    ensures defaults { (d : meaning.Defaults) → DefaultsStand s.now d places
+        → Writes writer.old writer.new (defaults_item d) }
 {
-    let middle = put_optional(s, timeout, out, at + 6);
-    let end = put_optional(s, wall_budget, out, middle);
-    close(out, at, 17, end);
-    end
+    let header = writer.open();
+    put_optional(s, places.timeout, writer);
+    put_optional(s, places.wall_budget, writer);
+    writer.close(header, Kind::Defaults);
 }
 
-// The fields of a record before its steps.
-pub fn put_top(s: &[u8], top: TopPlaces, out: &mut [u8], at: usize) -> usize
-    requires { (length s.now ≤ 2 ^ 20) × TopPlacesInside s.now top × (at ≤ 2 ^ 46) × (length out.old ≤ 2 ^ 20) }
-    ensures near { (at ≤ result) × (result ≤ at + 2 ^ 42) × (length out.new ≡ length out.old) }
-    ensures fields { (t : Top) → TopStands s.now t top
-        → Stored out.old out.new at (joined (top_fields t)) result }
+/// The fields of a record before its steps.
+pub fn put_top(s: &[u8], top: TopPlaces, writer: &mut RecordWriter<'_>)
+    requires { (length s.now ≤ 2 ^ 20) × TopPlacesInside s.now top }
+    ensures goes { Goes writer.old writer.new }
+    ensures fields { (t : Top) → TopStands s.now t top → Writes writer.old writer.new (joined (top_fields t)) }
 {
-    let name = top.name;
-    let description = top.description;
-    let tags = top.tags;
-    let image = top.image;
-    let setup = top.setup;
-    let timeout = top.timeout;
-    let wall_budget = top.wall_budget;
-    let fail_on = top.fail_on;
-    let a = put_found(s, name, out, at);
-    let b = put_found(s, description, out, a);
-    let c = put_tags(s, tags, out, b);
-    let d = put_found(s, image, out, c);
-    let e = put_value(s, setup, out, d);
-    let f = put_defaults(s, timeout, wall_budget, out, e);
-    put_sequence(s, fail_on, out, f)
+    put_found(s, top.name, writer);
+    put_found(s, top.description, writer);
+    put_tags(s, top.tags, writer);
+    put_found(s, top.image, writer);
+    put_value(s, top.setup, writer);
+    put_defaults(s, top.defaults, writer);
+    put_sequence(s, top.fail_on, writer);
 }

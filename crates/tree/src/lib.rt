@@ -1,99 +1,91 @@
-// The first job: the tree of a whole text (document 01, sections 1 to 3).
+// The first job: the tree of a whole text.
 #![tactic(auto)]
 
 ghost use Rattle.std.specs.Prelude.{◌≡◌, ◌≤◌, min, ◌^◌, length};
-ghost use Rattle.lines.specs.Table.{table_lines};
-ghost use Rattle.lines.specs.Ready.{Ready};
 ghost use Rattle.tree.specs.Tree as definition;
 ghost use Rattle.tree.specs.Contract.{AgreesTree, AgreesRead};
 ghost use Rattle.tree.specs.Tree.{answer_of, size_of, left};
 
 use block::block;
-use item::{LIMIT, zero_bytes};
-use lines::{LinesAnswer, TABLE, entry_at, read_lines};
-use literal::BlockRead;
+use item::LIMIT;
+use lines::{Lines, MOST_LINES, Row, read_lines};
 use refusal::Refusal;
 use utf8::is_utf8;
+use writer::Writer;
 
 // The most bytes that a text may have.
 const LONGEST: usize = 65535;
 
-// What reading a tree answers: the bytes that it takes.
+/// What reading a tree answers: the bytes that it takes.
+// An enum of its own, as each public job answers: what it tells has names, and the definitions name its cases.
 #[derive(Clone, Copy)]
 pub enum TreeAnswer {
     Read { bytes: usize },
     Refused(Refusal),
 }
 
-// What reading a tree with its lines answers: the bytes that it takes, and how many lines there are.
-#[derive(Clone, Copy)]
-pub enum TreeRead {
-    Done { bytes: usize, count: usize },
-    Refused(Refusal),
+/// What reading a tree with its lines gives: the bytes that it takes, and how many lines there are.
+#[derive(Clone, Copy, Debug, PartialEq, Eq)]
+pub struct TreeRead {
+    pub bytes: usize,
+    pub count: usize,
 }
 
-// How many places of a lent output count.
+/// How many places of a lent output count.
 pub fn counted(len: usize, most: usize) -> usize
     ensures { result ≡ min len most }
 {
-    if len > most {
-        return most;
-    }
-    len
+    len.min(most)
 }
 
 // The value of all lines.
-fn tree_of(text: &[u8], table: &[u16], count: usize, out: &mut [u8]) -> TreeAnswer
-    requires { Ready text.now table.now count × (length out.old ≤ 2 ^ 20) }
-    ensures { AgreesTree (definition.tree_of (length out.old)
-        (table_lines text.now table.now count)) out.old out.new result }
+fn tree_of(lines: &Lines<'_>, out: &mut [u8]) -> Result<usize, Refusal>
+    requires { length out.old ≤ 2 ^ 20 }
+    ensures { AgreesTree (definition.tree_of (length out.old) lines.now) out.old out.new result }
 {
-    match block(text, table, count, 0, 32, out, 0) {
-        BlockRead::Refused(e) => TreeAnswer::Refused(e),
-        BlockRead::Done { next, used } => {
-            if next == count {
-                return TreeAnswer::Read { bytes: used };
-            }
-            let line = entry_at(table, next);
-            TreeAnswer::Refused(Refusal::LinesLeft { line: line.number })
-        }
+    let mut writer = Writer::new(out);
+    let next = block(lines, 0, 32, &mut writer)?;
+    if next == lines.len() {
+        return Ok(writer.used());
     }
+    let line = lines.number(next);
+    Err(Refusal::LinesLeft { line })
 }
 
-// The tree of a text, and the table of its lines.
-pub fn read_with(text: &[u8], table: &mut [u16; TABLE], out: &mut [u8]) -> TreeRead
+/// The tree of a text, written from the front of `out`, and the rows of its lines. Of a refusal anything is left in both.
+pub fn read_with(
+    text: &[u8],
+    rows: &mut [Row; MOST_LINES],
+    out: &mut [u8],
+) -> Result<TreeRead, Refusal>
     requires { length out.old ≤ 2 ^ 20 }
-    ensures { AgreesRead (definition.tree (length out.old) text.now) text.now table.new
-        out.old out.new result }
+    ensures { AgreesRead (definition.tree (length out.old) text.now) text.now rows.new out.old out.new result }
 {
     let is_long = text.len() > LONGEST;
     if is_long {
-        return TreeRead::Refused(Refusal::TextTooLong);
+        return Err(Refusal::TextTooLong);
     }
     if !is_utf8(text) {
-        return TreeRead::Refused(Refusal::NotUtf8);
+        return Err(Refusal::NotUtf8);
     }
-    match read_lines(text, table) {
-        LinesAnswer::Refused(e) => TreeRead::Refused(e),
-        LinesAnswer::Read { count } => match tree_of(text, table, count, out) {
-            TreeAnswer::Refused(e) => TreeRead::Refused(e),
-            TreeAnswer::Read { bytes } => TreeRead::Done { bytes, count },
-        },
-    }
+    let count = read_lines(text, rows)?;
+    let lines = Lines::new(text, &rows[..count]);
+    let bytes = tree_of(&lines, out)?;
+    Ok(TreeRead { bytes, count })
 }
 
-// The tree of a text, written from the front of `work`; a refusal leaves zeros in all of it.
+/// The tree of a text, written from the front of `work`; a refusal leaves zeros in all of it.
 pub fn read_tree(text: &[u8], work: &mut [u8]) -> TreeAnswer
     ensures answer { answer_of result ≡ size_of (definition.tree (length work.old) text.now) }
     ensures bytes { work.new ≡ left (definition.tree (length work.old) text.now)
         work.old }
 {
-    let mut table = [0u16; TABLE];
+    let mut rows = [Row::EMPTY; MOST_LINES];
     let n = counted(work.len(), LIMIT);
-    match read_with(text, &mut table, &mut work[..n]) {
-        TreeRead::Done { bytes, count: _ } => TreeAnswer::Read { bytes },
-        TreeRead::Refused(e) => {
-            zero_bytes(work);
+    match read_with(text, &mut rows, &mut work[..n]) {
+        Ok(read) => TreeAnswer::Read { bytes: read.bytes },
+        Err(e) => {
+            work.fill(0);
             TreeAnswer::Refused(e)
         }
     }

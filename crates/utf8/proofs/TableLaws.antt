@@ -13,7 +13,7 @@ use Rattle.utf8.specs.Utf8.{Row, table, behind_in, tails_of}
 use Rattle.utf8.proofs.Ranges.{if-both, inside, below, above}
 
 -- the first bytes of the first n rows are all less than `top`
-abbrev passed : ℕ → List Row → ℕ → Bool
+abbrev pub passed : ℕ → List Row → ℕ → Bool
 passed zero rows top = true
 passed (suc n) [] top = true
 passed (suc n) (r ∷ rows) top = ltb r.first.high top && passed n rows top

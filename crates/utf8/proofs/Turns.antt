@@ -1,6 +1,6 @@
 -- What white_at, trim_start and trim_end find at a place of the text, one law for each of their answers. Assumes nothing.
 use Rattle.std.specs.Prelude.{if◌then◌else◌}
-use mathlib.Core.Path.{◌≡◌, sym, ap, ◌∙◌}
+use mathlib.Core.Path.{◌≡◌, refl, sym, ap, ◌∙◌}
 use mathlib.Core.List.{List, [], ◌∷◌}
 use mathlib.Core.Bool.{Bool, true, false, false≢true}
 use mathlib.Core.Option.{some, none}
@@ -27,69 +27,70 @@ module _ (s : List ℕ) (at to : ℕ) (k : to ≤ length s) where
       let z : at + 2 + 1 ≡ at + 3 = omega arith in
       two-more (omega arith) ∙ ap (λ (t : List ℕ). get_or s at 0 ∷ get_or s (at + 1) 0 ∷ t) (part-cons s (at + 2) to h k ∙ rw z)
 
-  pub white-nil : to ≡ at → white_len (part s at to) ≡ 0
+  pub white_nil : to ≡ at → white_len (part s at to) ≡ 0
   unfolding white_len
-  white-nil e = rw (e, part-empty s at)
+  white_nil e = rw (e, part-empty s at)
 
-  -- the tests of the definition, as they come out
-  module _ (p : white1 (get_or s at 0) ≡ true) where
-    pub white-one : at < to → white_len (part s at to) ≡ 1
-    unfolding white_len white_at maybe
-    white-one h = ap white_len (one_more h) ∙ go (part s (at + 1) to)
-      where
-        go : (t : List ℕ) → white_len (get_or s at 0 ∷ t) ≡ 1
-        go [] = rw p
-        go (b ∷ []) = rw p
-        go (b ∷ c ∷ t) = rw p
+-- the tests of the definition, as they come out, by the first bytes of a text
+pub len_none : (t : List ℕ) → length t < 1 → white_len t ≡ 0
+unfolding white_len
+len_none [] h = refl
+len_none (a ∷ t) h = absurd (omega arith)
 
-  module _ (p : white1 (get_or s at 0) ≡ false) where
-    pub white-cut : at < to → to - at < 2 → white_len (part s at to) ≡ 0
-    unfolding white_len white_at maybe
-    white-cut h l =
-        let z : at + 1 ≡ to = omega arith in
-        ap white_len (one_more h ∙ ap (λ (n : ℕ). get_or s at 0 ∷ part s n to) z ∙ ap (λ (t : List ℕ). get_or s at 0 ∷ t) (part-empty s to)) ∙ rw p
+pub len_one : (t : List ℕ) → 1 ≤ length t → white1 (get_or t 0 0) ≡ true → white_len t ≡ 1
+unfolding white_len white_at maybe
+len_one [] h p = absurd (omega arith)
+len_one (a ∷ []) h p = rw p
+len_one (a ∷ b ∷ []) h p = rw p
+len_one (a ∷ b ∷ c ∷ t) h p = rw p
 
-    pub white-two : at + 1 < to → white2 (get_or s at 0) (get_or s (at + 1) 0) ≡ true → white_len (part s at to) ≡ 2
-    unfolding white_len white_at maybe
-    white-two h q = ap white_len (two-more h) ∙ go (part s (at + 2) to)
-      where
-        go : (t : List ℕ) → white_len (get_or s at 0 ∷ get_or s (at + 1) 0 ∷ t) ≡ 2
-        go [] = rw (p, q)
-        go (c ∷ t) = rw (p, q)
+pub len_short : (t : List ℕ) → length t < 2 → white1 (get_or t 0 0) ≡ false → white_len t ≡ 0
+unfolding white_len white_at maybe
+len_short [] h p = refl
+len_short (a ∷ []) h p = rw p
+len_short (a ∷ b ∷ t) h p = absurd (omega arith)
 
-    module _ (q : white2 (get_or s at 0) (get_or s (at + 1) 0) ≡ false) where
-      pub white-cut-two : at + 1 < to → to - at < 3 → white_len (part s at to) ≡ 0
-      unfolding white_len white_at maybe
-      white-cut-two h l =
-          let z : at + 2 ≡ to = omega arith in
-          ap white_len (two-more h ∙ ap (λ (n : ℕ). get_or s at 0 ∷ get_or s (at + 1) 0 ∷ part s n to) z ∙ ap (λ (t : List ℕ). get_or s at 0 ∷ get_or s (at + 1) 0 ∷ t) (part-empty s to)) ∙ rw (p, q)
+pub len_two : (t : List ℕ) → 2 ≤ length t → white1 (get_or t 0 0) ≡ false → white2 (get_or t 0 0) (get_or t 1 0) ≡ true → white_len t ≡ 2
+unfolding white_len white_at maybe
+len_two [] h p q = absurd (omega arith)
+len_two (a ∷ []) h p q = absurd (omega arith)
+len_two (a ∷ b ∷ []) h p q = rw (p, q)
+len_two (a ∷ b ∷ c ∷ t) h p q = rw (p, q)
 
-      pub white-three : at + 2 < to → white3 (get_or s at 0) (get_or s (at + 1) 0) (get_or s (at + 2) 0) ≡ true → white_len (part s at to) ≡ 3
-      unfolding white_len white_at maybe
-      white-three h r = ap white_len (three-more h) ∙ rw (p, q, r)
+pub len_of_two : (t : List ℕ) → length t < 3 → white1 (get_or t 0 0) ≡ false → white2 (get_or t 0 0) (get_or t 1 0) ≡ false → white_len t ≡ 0
+unfolding white_len white_at maybe
+len_of_two [] h p q = refl
+len_of_two (a ∷ []) h p q = rw p
+len_of_two (a ∷ b ∷ []) h p q = rw (p, q)
+len_of_two (a ∷ b ∷ c ∷ t) h p q = absurd (omega arith)
 
-      pub white-none : at + 2 < to → white3 (get_or s at 0) (get_or s (at + 1) 0) (get_or s (at + 2) 0) ≡ false → white_len (part s at to) ≡ 0
-      unfolding white_len white_at maybe
-      white-none h r = ap white_len (three-more h) ∙ rw (p, q, r)
+pub len_three : (t : List ℕ) (x : Bool) → 3 ≤ length t → white1 (get_or t 0 0) ≡ false → white2 (get_or t 0 0) (get_or t 1 0) ≡ false
+    → white3 (get_or t 0 0) (get_or t 1 0) (get_or t 2 0) ≡ x → white_len t ≡ (if x then 3 else 0)
+unfolding white_len white_at maybe
+len_three [] x h p q r = absurd (omega arith)
+len_three (a ∷ []) x h p q r = absurd (omega arith)
+len_three (a ∷ b ∷ []) x h p q r = absurd (omega arith)
+len_three (a ∷ b ∷ c ∷ t) true h p q r = rw (p, q, r)
+len_three (a ∷ b ∷ c ∷ t) false h p q r = rw (p, q, r)
 
 -- a turn of trim_start, and its end
 module _ (s : List ℕ) (at to n : ℕ) (e : n ≡ white_len (part s at to)) where
-  pub start-turn : 0 < n → at + leading (part s at to) ≡ at + n + leading (part s (at + n) to)
-  start-turn h = omega (arith, leading-on (part s at to) n (sym e) h, ap leading (part-drop s at to n))
+  pub start_turn : 0 < n → at + leading (part s at to) ≡ at + n + leading (part s (at + n) to)
+  start_turn h = omega (arith, leading-on (part s at to) n (sym e) h, ap leading (part-drop s at to n))
 
-  pub start-end : n ≡ 0 → at + leading (part s at to) ≡ at
-  start-end z = omega (arith, leading-none (part s at to) (sym e ∙ z))
+  pub start_end : n ≡ 0 → at + leading (part s at to) ≡ at
+  start_end z = omega (arith, leading-none (part s at to) (sym e ∙ z))
 
 -- a turn of trim_end, and its end
 module _ (s : List ℕ) (from to n : ℕ) (h : from ≤ to) (k : to ≤ length s) (e : Ends s from to n) where
-  pub end-turn : 0 < n → trim_end (part s from to) ≡ trim_end (part s from (to - n))
-  end-turn p =
+  pub end_turn : 0 < n → trim_end (part s from to) ≡ trim_end (part s from (to - n))
+  end_turn p =
       let l : length (part s (to - n) to) ≡ n = part_length s (to - n) to (omega (arith, e.fits)) k ∙ omega (arith, e.fits) in
       ap trim_end (part-append s from (to - n) to (omega (arith, e.fits)) (omega arith))
       ∙ end-white (part s from (to - n)) (part s (to - n) to) (omega arith) (e.ends p ∙ sym l)
 
-  pub end-end : n ≡ 0 → from + length (trim_end (part s from to)) ≡ to
-  end-end z =
+  pub end_end : n ≡ 0 → from + length (trim_end (part s from to)) ≡ to
+  end_end z =
       let l : length (part s from to) ≡ to - from = part_length s from to h k in
       let t : trim_end (part s from to) ≡ part s from to
       = end_none (part s from to) (λ i p q. e.none z (from + i) (omega arith) (omega arith) (sym (ap white_len (part-drop s from to i)) ∙ q ∙ omega arith)) in
@@ -97,11 +98,11 @@ module _ (s : List ℕ) (from to n : ℕ) (h : from ≤ to) (k : to ≤ length s
 
 -- a white space character has at most three bytes, so that none ends a part where none of one, two or three bytes does
 module _ (s : List ℕ) (from to : ℕ) where
-  abbrev No : ℕ → Type 0
+  abbrev pub No : ℕ → Type 0
   No n = n ≤ to - from → white_len (part s (to - n) to) ≡ n → ⊥
 
-  pub ends-none : No 1 → No 2 → No 3 → Ends s from to 0
-  ends-none f g h =
+  pub ends_none : No 1 → No 2 → No 3 → Ends s from to 0
+  ends_none f g h =
       record {
         fits = omega arith;
         ends = λ p. absurd (omega arith);
@@ -119,9 +120,9 @@ module _ (s : List ℕ) (from to : ℕ) where
 
 -- a byte from 21 to 7F neither begins a white space character nor ends one
 module _ (s : List ℕ) (to : ℕ) (k : to ≤ length s) where
-  pub visible-first : (at : ℕ) → at < to → 0x20 < get_or s at 0 → get_or s at 0 < 0x80 → white_len (part s at to) ≡ 0
+  pub visible_first : (at : ℕ) → at < to → 0x20 < get_or s at 0 → get_or s at 0 < 0x80 → white_len (part s at to) ≡ 0
   unfolding white_len maybe
-  visible-first at h l m = rw (part-cons s at to h k, first-none (get_or s at 0) (part s (at + 1) to) l (omega arith))
+  visible_first at h l m = rw (part-cons s at to h k, first-none (get_or s at 0) (part s (at + 1) to) l (omega arith))
 
   visible-second : (at : ℕ) → at + 2 ≡ to → get_or s (at + 1) 0 < 0x80 → white_len (part s at to) ≡ 2 → ⊥
   unfolding white_len white_at maybe
@@ -148,8 +149,10 @@ module _ (s : List ℕ) (to : ℕ) (k : to ≤ length s) where
       go false false true q r = false≢true (sym q)
       go false false false q r = omega arith
 
-  pub visible-last : (from : ℕ) → from < to → 0x20 < get_or s (to - 1) 0 → get_or s (to - 1) 0 < 0x80 → Ends s from to 0
-  visible-last from h l m =
-      ends-none s from to (λ p e. omega (arith, visible-first (to - 1) (omega arith) l m))
+  pub visible_last : (from : ℕ) → from < to → 0x20 < get_or s (to - 1) 0 → get_or s (to - 1) 0 < 0x80 → Ends s from to 0
+  visible_last from h l m =
+      ends_none s from to (λ p e. omega (arith, visible_first (to - 1) (omega arith) l m))
       (λ p. visible-second (to - 2) (omega arith) (let z : to - 2 + 1 ≡ to - 1 = omega arith in rw z m))
       (λ p. visible-third (to - 3) (omega arith) (let z : to - 3 + 2 ≡ to - 1 = omega arith in rw z m))
+
+pub ruleset whites = (len_none, len_one, len_short, len_two, len_of_two, len_three)

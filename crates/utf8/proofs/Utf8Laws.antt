@@ -1,4 +1,5 @@
 -- Where UTF-8 can be cut and joined: laws for proofs of code that takes parts of a text. Assumes nothing.
+use Rattle.std.specs.Str.{IsAscii}
 use Rattle.std.specs.Prelude.{if◌then◌else◌}
 use mathlib.Core.Path.{◌≡◌, refl, sym, ap, ◌∙◌}
 use mathlib.Core.List.{List, [], ◌∷◌, ◌++◌}
@@ -6,7 +7,6 @@ use mathlib.Core.Bool.{Bool, true, false, ◌&&◌, ◌||◌, false≢true}
 use mathlib.Core.Option.{Option, none, some}
 use Prim.Native.Nat.{ℕ, zero, suc, ◌+◌, ◌-◌, ◌≤◌, ◌<◌}
 use native.Mathlib.Omega.{arith}
-use native.Mathlib.Numerals.{add-one}
 use lib.Dec.{leb, ltb, eqb}
 use lib.ListN.{length, get_or, take, drop, replicate, length-drop, drop_of_length-le}
 use lib.Seq.{drop-cons, get_or-drop, take_all, split_at}
@@ -45,12 +45,9 @@ pub utf8-ascii : (b : ℕ) (s : List ℕ) → b < 0x80 → is_utf8 (b ∷ s) ≡
 unfolding is_utf8 utf8_from maybe tails_of table behind_in
 utf8-ascii b s h = rw (inside (0x00 ‥ 0x7f) b (omega arith) (omega arith))
 
--- a turn of the loop over ASCII, and its end
-pub ascii-turned : (s : List ℕ) (at : ℕ) → at < length s → get_or s at 0 < 0x80 → is_utf8 (drop at s) ≡ is_utf8 (drop (at + 1) s)
-ascii-turned s at h k = rw (add-one, drop-cons s at 0) (utf8-ascii (get_or s at 0) (drop (suc at) s) k)
-
-pub ascii-ended : (s : List ℕ) (at : ℕ) → length s ≤ at → is_utf8 (drop at s) ≡ true
-ascii-ended s at h = rw (drop_of_length-le s h) utf8_nil
+pub all_ascii : (s : List ℕ) → IsAscii s → is_utf8 s ≡ true
+all_ascii [] h = utf8_nil
+all_ascii (b ∷ s) h = utf8-ascii b s (h 0) ∙ all_ascii s (λ i. h (suc i))
 
 -- cut
 

@@ -1,6 +1,6 @@
 -- A turn of each loop: what is left to be read decides as all of it does. Assumes nothing.
 use Rattle.std.specs.Prelude.{if◌then◌else◌}
-use mathlib.Core.Path.{◌≡◌, refl, sym, ap, ◌∙◌}
+use mathlib.Core.Path.{◌≡◌, refl, sym, ap, ◌∙◌, subst}
 use Prim.Native.Nat.{ℕ, zero, suc, ◌+◌, ◌-◌, ◌≤◌, ◌<◌}
 use native.Mathlib.Omega.{arith}
 use mathlib.Core.List.{List, [], ◌∷◌}
@@ -8,7 +8,8 @@ use mathlib.Core.Bool.{Bool, true, false, ◌&&◌, ◌||◌, not, false≢true}
 use mathlib.Core.Option.{Option, none, some, none-ne-some, some-injective}
 use lib.ListN.{length, take, drop, drop_of_length-le, length-take, length-drop}
 use lib.Seq.{take_all}
-use borrow.Author.Tests.{ne_eqb}
+use borrow.Author.Tests.{ne_eqb, eqb-true, eqb-false}
+use lib.Dec.{eqb}
 use Rattle.refusal.specs.Base.{maybe}
 use Rattle.refusal.proofs.Tools.{chosen}
 use Rattle.utf8.specs.Utf8.{is_utf8}
@@ -17,12 +18,20 @@ use Rattle.item.specs.Encode.{encode, Bytes}
 use Rattle.item.specs.Decode.{◌>>=◌, header, unkey, decode_items, decode_entries, decode}
 use Rattle.item.proofs.Exact.{got, none≢, entries-inv, decode-exact}
 use Rattle.meaning.specs.Sound.{sound}
-use Rattle.value.specs.Tree.{tree, accepts_items, accepts_entries}
+use Rattle.value.specs.Tree.{tree, accepts, accepts_items, accepts_entries}
 use Rattle.entries.specs.Entries.{Lies, key_twice}
 use Rattle.entries.proofs.Walking.{lies-between}
-use Rattle.value.specs.Walks.{ReadAt, Walks, each_sound, entries_in, Onward, EntryFollows}
-use Rattle.value.specs.declared.End.{End}
-use Rattle.value.specs.declared.End.TheVariants.{At, Nowhere}
+use Rattle.value.specs.Walks.{ReadAt}
+use Rattle.value.proofs.Contents.{no_header, content-refused, content-taken}
+use Rattle.item.specs.Walk.{GivesItem}
+use Rattle.item.specs.Places.{header_at}
+use Rattle.item.specs.declared.Item.{Item}
+use Rattle.item.specs.declared.Broken.{Broken}
+use Rattle.item.specs.declared.walk.Items.{Items as Walk}
+use Rattle.item.proofs.HeaderPlaces.{at_cut}
+use Rattle.item.proofs.Headers.{Spans, spans, header-item, no_header as no-item-there}
+use Rattle.std.proofs.Common.{Bor}
+use Rattle.std.specs.Prelude.{Some, None, Result, Ok, Err}
 
 -- ---- parts
 
@@ -57,6 +66,25 @@ left_out {B} l bs f p e h = go (decode l bs) e
     go : (o : Option (Yaml × List ℕ)) → (o >>= λ (x : Yaml × List ℕ). if sound x.0 then some x else none) ≡ none → maybe (o >>= f) false p ≡ false
     go none e = refl
     go (some x) e = chosen (sound x.0) _ _ e (λ _ r. absurd (none-ne-some x (sym r))) (λ t _. h x t)
+
+-- ---- an item, by its header
+
+module _ (l : ℕ) (s : List ℕ) (at : ℕ) where
+  pub value-broken : {broken : Broken} → Err broken ≡ header_at s at → tree l (drop at s) ≡ none
+  value-broken h = no_header l (drop at s) (no-item-there s at h)
+
+  pub value-missing : length s ≤ at → tree l (drop at s) ≡ none
+  value-missing h = value-broken (sym (at_cut s at (omega arith)))
+
+  module _ {item : Item} (h : Ok item ≡ header_at s at) where
+    pub value-bad : accepts l item.kind (take (item.to - item.from) (drop item.from s)) ≡ false → tree l (drop at s) ≡ none
+    value-bad e = content-refused l (drop at s) _ _ _ (header-item s at h) e
+
+    pub value-read : accepts l item.kind (take (item.to - item.from) (drop item.from s)) ≡ true → ReadAt (tree l) s at item.to
+    value-read e =
+        let i = spans s at h in
+        let t = content-taken l (drop at s) _ _ _ (header-item s at h) e in
+        record { value = t.value; is = t.is; forward = omega (arith, i.start, i.order); fits = i.fits }
 
 -- ---- items
 
@@ -124,6 +152,21 @@ module _ {l : ℕ} {s : List ℕ} {at : ℕ} (w : Items-left l s at) where
 
 -- ---- entries
 
+-- each entry by itself is sound: its key is UTF-8, and its value sound
+unfoldable pub each_sound : Entries → Bool
+each_sound done = true
+each_sound (pair k v es) = is_utf8 k && (sound v && each_sound es)
+
+-- whether such entries stand up to the end, read in so many turns
+unfoldable pub entries_in : ℕ → ℕ → List ℕ → Bool
+entries_in levels turns bs = maybe (decode_entries (λ r. decode levels r) turns bs) false each_sound
+
+-- an entry at a place is good, and all hangs on those behind it
+pub record Onward (levels : ℕ) (s : List ℕ) (at to : ℕ) : Type 0 where
+  pub is : (turns : ℕ) → entries_in levels (suc turns) (drop at s) ≡ entries_in levels turns (drop to s)
+  pub forward : at + 6 ≤ to
+  pub fits : to ≤ length s
+
 entries-step : (l t : ℕ) (bs : List ℕ) → 0 < length bs
     → decode_entries (λ r. decode l r) (suc t) bs ≡ (unkey bs >>= λ (k : List ℕ × List ℕ). decode l k.1 >>= λ (x : Yaml × List ℕ). decode_entries (λ r. decode l r) t x.1 >>= λ es. some (pair k.0 x.0 es))
 unfolding decode_entries
@@ -184,16 +227,6 @@ module _ (l : ℕ) (bs : List ℕ) (long : 0 < length bs) (t : ℕ) where
           go : (o : Option Entries) → maybe (o >>= λ es. some (pair k y es)) false each_sound ≡ maybe o false each_sound
           go none = refl
           go (some es) = rw (u, (taken l r y rest v).kept)
-
--- an entry is as good as its value, where its key is
-pub entry_follows : (l : ℕ) (s : List ℕ) (at kind to : ℕ) (k : List ℕ) → 0 < length (drop at s) → at + 6 ≤ to → header (drop at s) ≡ some (kind, k, drop to s) → kind ≡ 3 → is_utf8 k ≡ true
-    → (r : End) → Walks (tree l) s to r → EntryFollows l s at r
-entry_follows l s at kind to k long on e three u (At next) w = record {
-  is = λ turns. value_taken l (drop at s) long turns kind k (drop to s) e three w.value (drop next s) w.is u;
-  forward = omega (arith, w.forward);
-  fits = w.fits;
-}
-entry_follows l s at kind to k long on e three u Nowhere w = λ turns. value-refused l (drop at s) long turns kind k (drop to s) e three w
 
 -- sound entries: each by itself, and no key twice
 sound-each : (es : Entries) → sound es ≡ each_sound es && not (key_twice es)
@@ -261,3 +294,70 @@ module _ {l : ℕ} {s : List ℕ} {at : ℕ} (w : Entries-left l s at) where
       go : (t : ℕ) → length s - at ≤ t → entries_in l (length s) s ≡ entries_in l t (drop at s) → false ≡ entries_in l (length s) s
       go zero m e = absurd (omega arith)
       go (suc t) m e = sym (e ∙ r t)
+
+-- an entry by the headers of its key and its value
+module _ (l : ℕ) (s : List ℕ) (at : ℕ) {key : Item} (h : Ok key ≡ header_at s at) (low : at < length s) where
+  abbrev text : List ℕ
+  text = take (key.to - key.from) (drop key.from s)
+
+  long : 0 < length (drop at s)
+  long = omega (arith, length-drop at s)
+
+  pub key-bad : (key.kind ≡ 3 → is_utf8 text ≡ true → ⊥) → (t : ℕ) → entries_in l (suc t) (drop at s) ≡ false
+  key-bad n t = go (eqb key.kind 3) refl (is_utf8 text) refl
+    where
+      go : (b : Bool) → eqb key.kind 3 ≡ b → (u : Bool) → is_utf8 text ≡ u → entries_in l (suc t) (drop at s) ≡ false
+      go true e true f = absurd (n (eqb-true key.kind 3 e) f)
+      go true e false f = key-not-utf8 l (drop at s) long t key.kind text (drop key.to s) (header-item s at h) (eqb-true key.kind 3 e) f
+      go false e u f = other-kind l (drop at s) long t key.kind text (drop key.to s) (header-item s at h) (eqb-false key.kind 3 e)
+
+  module _ (three : key.kind ≡ 3) where
+    pub beside-bad : tree l (drop key.to s) ≡ none → (t : ℕ) → entries_in l (suc t) (drop at s) ≡ false
+    beside-bad e t = value-refused l (drop at s) long t key.kind text (drop key.to s) (header-item s at h) three e
+
+    pub entry-read : is_utf8 text ≡ true → {to : ℕ} → ReadAt (tree l) s key.to to → Onward l s at to
+    entry-read u {to} r =
+        let i = spans s at h in
+        record {
+          is = λ t. value_taken l (drop at s) long t key.kind text (drop key.to s) (header-item s at h) three r.value (drop to s) r.is u;
+          forward = omega (arith, r.forward, i.start, i.order);
+          fits = r.fits;
+        }
+
+-- ---- a turn of a loop over items
+
+-- the item at the place is given, and the walk goes on behind it
+pub record Step (s : List ℕ) (at : ℕ) (item : Item) (new : Walk) : Type 0 where
+  pub before : at < length s
+  pub is : Ok item ≡ header_at s at
+  pub places : Spans s at item.from item.to
+  pub bytes : new.bytes.now ≡ s
+  pub end : new.to ≡ length s
+  pub next : new.at ≡ item.to
+
+-- no item stands there
+pub record Stop (s : List ℕ) (at : ℕ) (broken : Broken) : Type 0 where
+  pub before : at < length s
+  pub is : Err broken ≡ header_at s at
+
+module _ (old new : Walk) {s : List ℕ} (b : old.bytes.now ≡ s) (t : old.to ≡ length s) where
+  pub step : {r : Result Item Broken} {item : Item} → GivesItem old (Some r) new → r ≡ Ok item → Step s old.at item new
+  step {item = item} g e =
+      let h = subst (λ (x : Result Item Broken). GivesItem old (Some x) new) e g in
+      let i : Ok item ≡ header_at s old.at = rw (← b) (sym h.1) in
+      record {
+        before = omega (arith, h.0, t);
+        is = i;
+        places = spans s old.at i;
+        bytes = ap (λ (x : Bor (List ℕ)). x.now) h.2.bytes ∙ b;
+        end = h.2.to ∙ t;
+        next = h.3;
+      }
+
+  pub stop : {r : Result Item Broken} {broken : Broken} → GivesItem old (Some r) new → r ≡ Err broken → Stop s old.at broken
+  stop g e =
+      let h = subst (λ (x : Result Item Broken). GivesItem old (Some x) new) e g in
+      record { before = omega (arith, h.0, t); is = rw (← b) (sym h.1) }
+
+  pub over : GivesItem old None new → length s ≤ old.at
+  over g = omega (arith, g.0, t)

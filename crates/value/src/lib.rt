@@ -2,130 +2,89 @@
 // an item is lent as a slice of its own; `levels` collections may be open in it, one in another.
 #![tactic(auto)]
 
-ghost use Rattle.std.specs.Prelude.{◌≡◌, ◌≤◌, ◌<◌, ◌^◌, length};
+ghost use Rattle.std.specs.Prelude.{◌≡◌, ◌≤◌, ◌^◌, length};
 ghost use Rattle.value.specs.Tree.{tree, accepts, accepts_items, accepts_entries};
-ghost use Rattle.value.specs.Walks.{Walks, EntryFollows};
+ghost use Rattle.value.specs.Walks.{Walks};
 
 use entries::repeats;
-use item::{Header, header_at};
+use item::{Items, Kind, header_at};
 use utf8::is_utf8;
 
-// Where an item ends that was looked for and found good.
-#[derive(Clone, Copy)]
-pub enum End {
-    At(usize),
-    Nowhere,
-}
-
+// One byte, 0 or 1.
 fn flag(content: &[u8]) -> bool
     ensures { result ≡ accepts 0 1 content.now }
 {
-    if content.len() != 1 {
-        return false;
-    }
-    content[0] < 2
-}
-
-fn scalar(kind: usize, content: &[u8], levels: usize) -> bool
-    requires { kind < 4 }
-    ensures { result ≡ accepts levels kind content.now }
-{
-    if kind == 0 {
-        return content.len() == 0;
-    }
-    if kind == 1 {
-        return flag(content);
-    }
-    if kind == 2 {
-        return content.len() == 8;
-    }
-    is_utf8(content)
-}
-
-#[cycle(entries_entry_items_value_value_at)]
-fn items(s: &[u8], levels: usize) -> bool
-    requires { length s.now ≤ 2 ^ 20 }
-    ensures { result ≡ accepts_items levels s.now }
-{
-    let mut at = 0;
-    while at < s.len() {
-        let end = value_at(s, at, levels);
-        let End::At(next) = end else {
-            return false;
-        };
-        at = next;
-    }
-    true
-}
-
-// An entry: its key and its value. Whether a key stands twice is judged once, when all entries are read.
-#[cycle(entries_entry_items_value_value_at)]
-fn entry(s: &[u8], at: usize, levels: usize) -> End
-    requires { (at < length s.now) × (length s.now ≤ 2 ^ 20) }
-    ensures { EntryFollows levels s.now at result }
-{
-    let head = header_at(s, at);
-    let Header::Item { kind, from, to } = head else {
-        return End::Nowhere;
-    };
-    if kind != 3 {
-        return End::Nowhere;
-    }
-    if !is_utf8(&s[from..to]) {
-        return End::Nowhere;
-    }
-    value_at(s, to, levels)
-}
-
-#[cycle(entries_entry_items_value_value_at)]
-fn entries(s: &[u8], levels: usize) -> bool
-    requires { length s.now ≤ 2 ^ 20 }
-    ensures { result ≡ accepts_entries levels s.now }
-{
-    let mut at = 0;
-    while at < s.len() {
-        let end = entry(s, at, levels);
-        let End::At(next) = end else {
-            return false;
-        };
-        at = next;
-    }
-    !repeats(s, 0, s.len())
+    content.len() == 1 && content[0] < 2
 }
 
 // Whether this is the content of a value of this kind.
-#[cycle(entries_entry_items_value_value_at)]
+#[cycle(values)]
 fn value(kind: usize, content: &[u8], levels: usize) -> bool
     requires { length content.now ≤ 2 ^ 20 }
     ensures { result ≡ accepts levels kind content.now }
 {
-    if kind < 4 {
-        return scalar(kind, content, levels);
-    }
-    if levels == 0 {
+    let Ok(kind) = Kind::try_from(kind) else {
         return false;
+    };
+    match kind {
+        Kind::Null => content.is_empty(),
+        Kind::Bool => flag(content),
+        Kind::Int => content.len() == 8,
+        Kind::Str => is_utf8(content),
+        Kind::Seq => levels > 0 && items(content, levels - 1),
+        Kind::Map => levels > 0 && entries(content, levels - 1),
+        _ => false,
     }
-    if kind == 4 {
-        return items(content, levels - 1);
-    }
-    if kind == 5 {
-        return entries(content, levels - 1);
-    }
-    false
 }
 
-// The end of the value that begins at `at`.
-#[cycle(entries_entry_items_value_value_at)]
-pub fn value_at(s: &[u8], at: usize, levels: usize) -> End
+#[cycle(values)]
+fn items(s: &[u8], levels: usize) -> bool
+    requires { length s.now ≤ 2 ^ 20 }
+    ensures { result ≡ accepts_items levels s.now }
+{
+    for item in Items::new(s) {
+        let Ok(item) = item else {
+            return false;
+        };
+        if !value(item.kind, &s[item.from..item.to], levels) {
+            return false;
+        }
+    }
+    true
+}
+
+// Keys and values in turn. Whether a key stands twice is judged once, when all are read.
+#[cycle(values)]
+fn entries(s: &[u8], levels: usize) -> bool
+    requires { length s.now ≤ 2 ^ 20 }
+    ensures { result ≡ accepts_entries levels s.now }
+{
+    let mut walk = Items::new(s);
+    while let Some(key) = walk.next() {
+        let Ok(key) = key else {
+            return false;
+        };
+        if key.kind != Kind::Str as usize || !is_utf8(&s[key.from..key.to]) {
+            return false;
+        }
+        let Some(item) = walk.next() else {
+            return false;
+        };
+        let Ok(item) = item else {
+            return false;
+        };
+        if !value(item.kind, &s[item.from..item.to], levels) {
+            return false;
+        }
+    }
+    !repeats(s, 0, s.len())
+}
+
+// The end of the value that begins at `at`. The content of a value is lent as a slice of its own.
+pub fn value_at(s: &[u8], at: usize, levels: usize) -> Option<usize>
     requires { length s.now ≤ 2 ^ 20 }
     ensures { Walks (tree levels) s.now at result }
 {
-    let head = header_at(s, at);
-    let Header::Item { kind, from, to } = head else {
-        return End::Nowhere;
-    };
-    if value(kind, &s[from..to], levels) {
-        return End::At(to);
-    }
-    End::Nowhere
+    let item = header_at(s, at).ok()?;
+    value(item.kind, &s[item.from..item.to], levels).then_some(item.to)
 }

@@ -1,15 +1,16 @@
 -- By whether a line is left. Assumes nothing.
-use native.Mathlib.Omega.{arith}
 use mathlib.Core.Path.{◌∙◌}
+use native.Mathlib.Omega.{arith}
+use borrow.Author.Tests.{le-ltb}
 use Rattle.block.proofs.Parts.{dash-end, dash-on}
 use Rattle.block.proofs.goes_on.Goals as goal
 
-pub returns-then-i-count : goal.returns-then-i-count
-returns-then-i-count c =
+pub returns-then-i-len : goal.returns-then-i-len
+returns-then-i-len c =
     let a = c.args in
-    dash-end a.text.now a.table.now a.count a.i a.indent c.if-i-count.true
+    c.dash_at.ensures ∙ dash-on a.lines.now a.i a.indent (omega arith)
 
-pub returns : goal.returns
-returns c =
+pub returns-else-i-len : goal.returns-else-i-len
+returns-else-i-len c =
     let a = c.args in
-    c.dash_at.ensures ∙ dash-on a.text.now a.table.now a.count a.i a.indent (omega (arith, c.requires.1, c.if-i-count.false))
+    le-ltb a.i c.len.result c.if-i-len.false ∙ dash-end a.lines.now a.i a.indent (omega arith)

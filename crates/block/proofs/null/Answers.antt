@@ -1,15 +1,17 @@
 -- By the room. Assumes nothing.
-use native.Mathlib.Omega.{arith}
 use lib.ListN.{drop}
+use Rattle.std.proofs.lemmas.Result.{err_from_is_err_and}
 use Rattle.block.proofs.Parts.{null-full, null-done}
 use Rattle.block.proofs.null.Goals as goal
 
-pub returns-then-out-at-lt6 : goal.returns-then-out-at-lt6
-returns-then-out-at-lt6 c =
+pub returns-in_err-reserve : goal.returns-in_err-reserve
+returns-in_err-reserve c =
     let a = c.args in
-    λ ls h. null-full a.out.now a.at (drop a.i ls) (omega (arith, c.if-out-at-lt6.true))
+    let p = err_from_is_err_and c.from_residual.result c.from_residual.ensures.1 in
+    let e = c.in_err-reserve.ensures in
+    λ ls h. rw (p.1, p.2, e.1) (null-full a.writer.now (drop a.i ls) e.0)
 
 pub returns : goal.returns
 returns c =
     let a = c.args in
-    λ ls h. null-done a.out.now _ a.at a.i ls h (omega (arith, c.if-out-at-lt6.false, c.requires.0)) c.put_null.ensures
+    λ ls h. null-done a.writer.now _ a.i ls h c.null.ensures

@@ -1,15 +1,13 @@
--- The invariant: the names from `at` on have the key where all of them have it. Assumes nothing.
-use mathlib.Core.Path.{◌≡◌}
-use mathlib.Core.List.{List}
-use mathlib.Core.Option.{some}
-use Prim.Native.Nat.{ℕ, ◌-◌}
-use lib.ListN.{length}
+-- The invariant: the names that are left have the key where all of them have it. Assumes nothing.
+use Rattle.std.proofs.Common.{ℕ, ◌≡◌, List, length}
+use Rattle.std.proofs.Math.Option.{some}
 use Rattle.check_steps.specs.Names.{filled}
 use Rattle.check_steps.proofs.Names.{Unread}
 use Rattle.check_steps.proofs.is_name.Given as goal
 
-abbrev pub invariant-loop-at : goal.invariant-loop-at
-invariant-loop-at l = (ns : List (List ℕ)) → filled l.names ≡ some ns → Unread l.names l.key l.at ns
-
-abbrev pub decreases-loop-at : goal.decreases-loop-at
-decreases-loop-at l = length l.names - l.at
+abbrev pub invariant-loop-name : goal.invariant-loop-name
+invariant-loop-name l = record {
+  bytes : l.name-iterator.bytes.now ≡ l.names;
+  to : l.name-iterator.to ≡ length l.names;
+  unread : (ns : List (List ℕ)) → filled l.names ≡ some ns → Unread l.names l.key l.name-iterator.at ns;
+}

@@ -1,42 +1,42 @@
-use borrow.Author.Rules.{rules}
-use borrow.Author.Tests.{eq-eqb}
+-- Each part begins where the one before it ends. Assumes nothing.
+use Prim.Native.Nat.{◌+◌, ◌-◌}
+use mathlib.Core.Path.{◌≡◌, ◌∙◌, sym}
 use native.Mathlib.Omega.{arith}
-use Rattle.demands.proofs.Filling.{part-begins, parts-on, part-some, part-good, parts-end}
+use lib.ListN.{take}
+use lib.Seq.{take_all}
+use borrow.Author.Tests.{eq-eqb}
+use Rattle.meaning.specs.Record.{joined}
+use Rattle.demands.proofs.Lookups.{found-part, part-there, part-starts, part-ends}
+use Rattle.demands.proofs.fill.Goals.{else-loop-number-test, then-loop-number-test+in-Found+else-start-at+else-number-count}
 use Rattle.demands.proofs.fill.Goals as goal
 
-pub loop-done-init : goal.loop-done-init
-loop-done-init c = (search rules, c.requires.1)
+pub loop-number-init : goal.loop-number-init
+unfolding joined
+loop-number-init g c = λ w. omega arith
+
+pub returns-in_default : goal.returns-in_default
+returns-in_default g c =
+    absurd (part-there c.find.result (found-part c.requires.parts c.find.ensures (omega arith) (omega arith)) (λ s e q. c.in_default.not-Found s e q))
 
 pub returns-then-start-at : goal.returns-then-start-at
-returns-then-start-at c =
-    let s = c in
-    let k = c.loop-done in
-    let f = c.find in
-    absurd (c.if-start-at.true (part-begins s.requires.0 s.args.by k.done (omega (arith, s.count_of-count.ensures)) f.result f.ensures k.at k.invariant.1 c.in-Found.start c.in-Found.end c.in-Found.is))
+returns-then-start-at g c =
+    let w = c.requires.parts in
+    absurd (c.if-start-at.true (part-starts (found-part w c.in-Found.ensures (omega arith) (omega arith)) ∙ sym (c.loop-number.invariant w)))
 
-pub returns-in-Nothing : goal.returns-in-Nothing
-returns-in-Nothing c =
-    let s = c in
-    let k = c.loop-done in
-    let f = c.find in
-    absurd (part-some s.requires.0 s.args.by k.done (omega (arith, s.count_of-count.ensures)) f.result f.ensures c.in-Nothing.is)
-
-pub returns-in-Refused : goal.returns-in-Refused
-returns-in-Refused c =
-    let s = c in
-    let k = c.loop-done in
-    let f = c.find in
-    absurd (part-good s.requires.0 s.args.by k.done (omega (arith, s.count_of-count.ensures)) f.result f.ensures c.in-Refused.field-0 c.in-Refused.is)
-
-pub loop-done-preserved : goal.loop-done-preserved
-loop-done-preserved c =
-    let s = c in
-    let k = c.loop-done in
-    let f = c.find in
-    (search rules, parts-on s.requires.0 s.args.by k.done (omega (arith, s.count_of-count.ensures)) f.result f.ensures c.in-Found.start c.in-Found.end c.in-Found.is)
+pub loop-number-preserved : goal.loop-number-preserved
+loop-number-preserved g c = λ w.
+    let k : c.loop-number.number + 1 - 1 ≡ c.loop-number.number = omega arith in
+    rw k (part-ends (found-part w c.in-Found.ensures (omega arith) (omega arith)))
 
 pub returns : goal.returns
-returns c =
-    let s = c in
-    let k = c.loop-done in
-    eq-eqb _ _ (parts-end s.requires.0 s.args.by k.done k.at (omega (arith, s.count_of-count.ensures)) k.invariant.1)
+returns g c =
+    let w = c.requires.parts in
+    let n = c.loop-number.number in
+    eq-eqb _ _ (elim c.loop-number-test.branch [
+      | else-loop-number-test v ↦
+          let all : take (n - 1) w.parts ≡ w.parts = take_all (n - 1) w.parts (omega (arith, w.many)) in
+          v.at-is ∙ c.loop-number.invariant w ∙ rw all w.end
+      | then-loop-number-test+in-Found+else-start-at+else-number-count v ↦
+          let all : take n w.parts ≡ w.parts = take_all n w.parts (omega (arith, w.many)) in
+          v.at-is ∙ part-ends (found-part w v.in-Found.ensures (omega arith) (omega arith)) ∙ rw all w.end
+    ])

@@ -1,10 +1,9 @@
--- The invariant: what was found so far ends at `at`. The measure is what is left to find. Assumes nothing.
-use Prim.Native.Nat.{◌-◌, ◌≤◌}
-use Rattle.demands.specs.Contract.{PartsTo}
+-- What was found so far ends at `at`. Assumes nothing.
+use Rattle.std.proofs.Common.{◌≡◌, ◌+◌, ◌-◌, length, take}
+use Rattle.meaning.specs.Record.{joined}
+use Rattle.demands.specs.Contract.{Parts}
 use Rattle.demands.proofs.fill.Given as goal
 
-abbrev pub invariant-loop-done : goal.invariant-loop-done
-invariant-loop-done l = (l.done ≤ l.count) × PartsTo l.by l.record l.done l.at
-
-abbrev pub decreases-loop-done : goal.decreases-loop-done
-decreases-loop-done l = l.count - l.done
+abbrev pub invariant-loop-number : goal.invariant-loop-number
+invariant-loop-number g l =
+    (w : Parts (goal.L-post g l.find) l.record l.count l.first) → l.at ≡ l.first + length (joined (take (l.number - 1) w.parts))

@@ -1,30 +1,23 @@
--- An entry is two items: its places by what their headers say. Assumes nothing.
-use mathlib.Core.Path.{◌≡◌, sym, ap, ◌∙◌}
-use Prim.Native.Nat.{◌+◌}
-use lib.ListN.{length}
-use Rattle.item.specs.Places.{header_at}
-use Rattle.item.proofs.Headers.{an_item}
-use Rattle.entries.proofs.Standing.{value-head}
-use Rattle.entries.proofs.Walking.{places, key-head, value-stands, pair_is}
+-- An entry is two items, by what their headers say. Assumes nothing.
+use Rattle.std.proofs.Common.{rules, ◌≡◌, ◌∙◌, ℕ, List}
+use Rattle.std.specs.Prelude.{Result}
+use Rattle.item.specs.declared.Broken.{Broken}
+use Rattle.entries.specs.declared.Pair.{Pair}
+use Rattle.entries.specs.Entries.{with_value, with_key, pair_at, Paired}
+use Rattle.entries.proofs.Walking.{paired}
 use Rattle.entries.proofs.pair_at.Goals as goal
 
-pub returns-in_default-clause-entry : goal.returns-in_default-clause-entry
-returns-in_default-clause-entry c = λ k v es w st. an_item _ (c.header_at-head.ensures ∙ key-head k v es st w) c.in_default.not-Item
+told : {s : List ℕ} {at : ℕ} {r : Result Pair Broken} → r ≡ pair_at s at → Paired s at r
+told {s} {at} e k v es w st = e ∙ paired s at k v es w st
 
-pub returns-in_default-value-clause-entry : goal.returns-in_default-value-clause-entry
-returns-in_default-value-clause-entry c = λ k v es w st.
-    let h = sym c.in-Item.is ∙ c.header_at-head.ensures ∙ key-head k v es st w in
-    let e : c.in-Item.end ≡ c.args.at + 6 + length k = cc h in
-    an_item _ (c.header_at-value.ensures ∙ ap (header_at _) e ∙ value-head v w (value-stands k v es st)) c.in_default-value.not-Item
+pub returns-in_err-key-clause-entry : goal.returns-in_err-key-clause-entry
+unfolding pair_at with_key with_value
+returns-in_err-key-clause-entry c = told (search rules)
 
-pub returns-clause-pair_places : goal.returns-clause-pair_places
-returns-clause-pair_places c =
-    let h = sym c.in-Item.is ∙ c.header_at-head.ensures in
-    let g = sym c.in-Item-value.is ∙ c.header_at-value.ensures in
-    places _ _ h g
+pub returns-in_err-value-clause-entry : goal.returns-in_err-value-clause-entry
+unfolding pair_at with_key with_value
+returns-in_err-value-clause-entry c = told (search rules)
 
 pub returns-clause-entry : goal.returns-clause-entry
-returns-clause-entry c =
-    let h = sym c.in-Item.is ∙ c.header_at-head.ensures in
-    let g = sym c.in-Item-value.is ∙ c.header_at-value.ensures in
-    λ k v es w st. pair_is k v es st w h g
+unfolding pair_at with_key with_value
+returns-clause-entry c = told (search rules)

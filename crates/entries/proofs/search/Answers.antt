@@ -1,102 +1,59 @@
-use borrow.Author.Rules.{rules}
-use native.Mathlib.Omega.{arith}
-use mathlib.Core.Path.{◌≡◌, sym, ◌∙◌}
+use Rattle.std.proofs.Common.{rules, arith, ◌≡◌, ◌-◌, ℕ, take, drop, sym, ◌∙◌, subst, length}
 use mathlib.Core.Bool.{false}
-use mathlib.Core.List.{List}
-use Prim.Native.Nat.{ℕ, ◌-◌, ◌≤◌, ◌<◌}
-use lib.ListN.{length, take, drop, length-take, length-drop}
+use lib.ListN.{length-take, length-drop}
 use Rattle.refusal.specs.Base.{same}
-use Rattle.item.specs.Tree.{Entries}
 use Rattle.item.proofs.Same.{same_length}
-use Rattle.entries.specs.Entries.{Lies, Places}
-use Rattle.entries.proofs.Walking.{places_of, Turn, turn, no-entry, Sought, search-end, place_end, search-found, place_found, search-on}
+use Rattle.entries.proofs.Walking.{turn, no-entry, step, stop, Sought, search-end, place_end, search-found, place_found, search-on}
 use Rattle.entries.proofs.search.Goals as goal
-use Rattle.entries.proofs.search.Goals.{In-At}
-
--- an entry
-module _ (c : In-At) where
-  abbrev s : List ℕ
-  s = c.args.s.now
-
-  abbrev from : ℕ
-  from = c.args.from
-
-  abbrev to : ℕ
-  to = c.args.to
-
-  abbrev key : List ℕ
-  key = c.args.key.now
-
-  abbrev at : ℕ
-  at = c.loop-at.at
-
-  abbrev start : ℕ
-  start = c.in-At.start
-
-  abbrev stop : ℕ
-  stop = c.in-At.end
-
-  abbrev kind : ℕ
-  kind = c.in-At.kind
-
-  abbrev next : ℕ
-  next = c.in-At.next
-
-  here : Places s at start stop next
-  here = places_of c.in-At.is c.pair_at-pair.ensures.pair_places
-
-  within : stop ≤ length s
-  within = omega (arith, here.value, here.inside)
-
-  forward : to - next < to - at
-  forward = omega (arith, here.first, here.key, here.value, c.loop-at-test.true)
-
-  other_length : (stop - start ≡ length key → ⊥) → same (take (stop - start) (drop start s)) key ≡ false
-  other_length n = same_length _ _ (λ e. n (sym (simp (length-take, length-drop) (omega (arith, here.key, within))) ∙ e))
-
-  module _ (es : Entries) (h : Lies s from to es) where
-    abbrev sought : Sought s key from to at es
-    sought = c.loop-at.invariant es h
-
-    turned : Turn s at to sought.rest start stop kind next
-    turned = turn sought.rest (search rules) (search rules) c.pair_at-pair.ensures.entry c.in-At.is sought.lies
+use Rattle.entries.proofs.search.Goals.{else-is_as_long-via-then-is_as_long+else-equal_bytes, else-is_as_long-via-else-is_as_long}
 
 pub returns-in_default-clause-value : goal.returns-in_default-clause-value
-returns-in_default-clause-value c =
-    let p = c.pair_at-pair.ensures.entry in
-    let e = c.in_default.is in
-    λ es h. let w = c.loop-at.invariant es h in no-entry w.rest (search rules) (search rules) p e w.lies
+returns-in_default-clause-value c = λ es h.
+    let i = c.loop-pair.invariant in
+    let t = stop _ _ i.0 i.1 c.in-Some.ensures.steps c.in_default.is in
+    let w = i.2 es h in
+    no-entry w.rest (search rules) t.before t.is w.lies
 
 pub returns-in_default-clause-place : goal.returns-in_default-clause-place
-returns-in_default-clause-place c =
-    let p = c.pair_at-pair.ensures.entry in
-    let e = c.in_default.is in
-    λ es h. let w = c.loop-at.invariant es h in no-entry w.rest (search rules) (search rules) p e w.lies
+returns-in_default-clause-place c = λ es h.
+    let i = c.loop-pair.invariant in
+    let t = stop _ _ i.0 i.1 c.in-Some.ensures.steps c.in_default.is in
+    let w = i.2 es h in
+    no-entry w.rest (search rules) t.before t.is w.lies
 
 pub returns-then-equal_bytes-clause-value : goal.returns-then-equal_bytes-clause-value
-returns-then-equal_bytes-clause-value c =
-    let k = (goal.at.returns-then-equal_bytes-clause-value c).In-At in
-    let t = sym c.equal_bytes.ensures ∙ c.if-equal_bytes.true in
-    λ es h. search-found (sought k es h) (turned k es h) t
+returns-then-equal_bytes-clause-value c = λ es h.
+    let i = c.loop-pair.invariant in
+    let t = step _ _ i.0 i.1 c.in-Some.ensures.steps c.in-Ok.is in
+    let w = i.2 es h in
+    search-found w (turn w.rest (search rules) t.before t.is w.lies) (sym c.equal_bytes.ensures ∙ c.if-equal_bytes.true)
 
 pub returns-then-equal_bytes-clause-place : goal.returns-then-equal_bytes-clause-place
-returns-then-equal_bytes-clause-place c =
-    let k = (goal.at.returns-then-equal_bytes-clause-place c).In-At in
-    let t = sym c.equal_bytes.ensures ∙ c.if-equal_bytes.true in
-    λ es h. place_found (sought k es h) (turned k es h) t
+returns-then-equal_bytes-clause-place c = λ es h.
+    let i = c.loop-pair.invariant in
+    let t = step _ _ i.0 i.1 c.in-Some.ensures.steps c.in-Ok.is in
+    let w = i.2 es h in
+    place_found w (turn w.rest (search rules) t.before t.is w.lies) (sym c.equal_bytes.ensures ∙ c.if-equal_bytes.true)
 
-pub loop-at-preserved-else-equal_bytes : goal.loop-at-preserved-else-equal_bytes
-loop-at-preserved-else-equal_bytes c =
-    let k = (goal.at.loop-at-preserved-else-equal_bytes c).In-At in
-    λ es h. search-on (sought k es h) (turned k es h) (sym c.equal_bytes.ensures ∙ c.if-equal_bytes.false)
-
-pub loop-at-preserved : goal.loop-at-preserved
-loop-at-preserved c =
-    let k = (goal.at.loop-at-preserved c).In-At in
-    λ es h. search-on (sought k es h) (turned k es h) (other_length k (λ e. omega arith))
+pub loop-pair-preserved : goal.loop-pair-preserved
+loop-pair-preserved c =
+    let i = c.loop-pair.invariant in
+    let p = c.in-Ok.pair in
+    let s = c.args.s.now in
+    let key = c.args.key.now in
+    let t = step _ _ i.0 i.1 c.in-Some.ensures.steps c.in-Ok.is in
+    let other : same (take (p.end - p.start) (drop p.start s)) key ≡ false = elim c.else-is_as_long.branch [
+      | else-is_as_long-via-then-is_as_long+else-equal_bytes w ↦ sym w.equal_bytes.ensures ∙ w.if-equal_bytes.false
+      | else-is_as_long-via-else-is_as_long w ↦ same_length _ _ (λ e. let n : length (take (p.end - p.start) (drop p.start s)) ≡ p.end - p.start = simp (length-take, length-drop) (omega (arith, t.places.key, t.places.value, t.places.inside)) in omega (arith, e, n, w.if-is_as_long.false))
+    ] in (
+      t.bytes,
+      t.end,
+      λ es h. let w = i.2 es h in
+          subst (λ (n : ℕ). Sought s key c.args.from c.args.to n es) (sym t.next) (search-on w (turn w.rest (search rules) t.before t.is w.lies) other),
+    )
 
 pub returns-clause-value : goal.returns-clause-value
-returns-clause-value c = λ es h. search-end (c.loop-at.invariant es h) (search rules)
+returns-clause-value c = λ es h. search-end (c.loop-pair.invariant.2 es h) (search rules)
 
 pub returns-clause-place : goal.returns-clause-place
-returns-clause-place c = λ es h. place_end (c.loop-at.invariant es h) (search rules)
+returns-clause-place c = λ es h. place_end (c.loop-pair.invariant.2 es h) (search rules)

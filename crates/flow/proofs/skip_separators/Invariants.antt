@@ -1,12 +1,8 @@
 -- The invariant: what is left behind the separators is the same from here on. Assumes nothing.
 use mathlib.Core.Path.{◌≡◌}
-use Prim.Native.Nat.{◌≤◌, ◌-◌}
-use lib.ListN.{length, drop}
+use lib.ListN.{drop}
 use Rattle.flow.specs.Contract.{skip_separators}
 use Rattle.flow.proofs.skip_separators.Given as goal
 
 abbrev pub invariant-loop-i : goal.invariant-loop-i
-invariant-loop-i l = (l.from ≤ l.i) × (l.i ≤ length l.s) × (skip_separators l.got (drop l.i l.s) ≡ skip_separators l.got (drop l.from l.s))
-
-abbrev pub decreases-loop-i : goal.decreases-loop-i
-decreases-loop-i l = length l.s - l.i
+invariant-loop-i l = skip_separators l.got (drop l.i l.s) ≡ skip_separators l.got (drop l.from l.s)

@@ -1,9 +1,7 @@
--- Strings of other lengths are not the same. Assumes nothing.
-use mathlib.Core.Path.{sym}
+use Rattle.std.proofs.Common.{sym, ◌∙◌}
+use Rattle.std.proofs.lemmas.Bool.{ne_eqb}
 use Rattle.item.proofs.Same.{same_length}
 use Rattle.item.proofs.same_bytes.Goals as goal
 
-pub returns-then-a-b : goal.returns-then-a-b
-returns-then-a-b c =
-    let a = c.args in
-    sym (same_length a.a.now a.b.now c.if-a-b.true)
+pub returns-else-a-b : goal.returns-else-a-b
+returns-else-a-b c = ne_eqb _ _ c.if-a-b.false ∙ sym (same_length c.args.a.now c.args.b.now c.if-a-b.false)

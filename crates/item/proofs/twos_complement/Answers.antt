@@ -1,16 +1,16 @@
--- By cases on the sign; a negative zero is zero. Assumes nothing.
+use Rattle.std.proofs.Common.{◌≡◌, ◌+◌, ◌%◌, ◌<◌, ◌^◌, ℕ, suc, zero, true, arith, rules}
 use Rattle.item.specs.Encode.{twos, signed}
-use Rattle.item.proofs.Laws.{twos-negative}
 use Rattle.item.proofs.twos_complement.Goals as goal
 
-pub returns-then-magnitude-eq0 : goal.returns-then-magnitude-eq0
+-- what is left of 2 ^ 64 behind a magnitude
+negated : (m n : ℕ) → m < 2 ^ 64 → n < 2 ^ 64 → (m + n) % 2 ^ 64 ≡ 0 → m ≡ twos (signed true n)
 unfolding twos signed
-returns-then-magnitude-eq0 c = rw (c.if-negative.true, c.if-magnitude-eq0.true)
+negated m zero h k e = omega (arith, e)
+negated m (suc n) h k e = omega (arith, e)
 
-pub returns-then-negative : goal.returns-then-negative
-unfolding twos signed
-returns-then-negative c = rw c.if-negative.true (twos-negative c.args.magnitude c.if-magnitude-eq0.false)
+pub returns-then-n : goal.returns-then-n
+returns-then-n c = rw c.if-n.true (negated _ _ c.wrapping_neg.type_inv (search rules) c.wrapping_neg.ensures)
 
-pub returns : goal.returns
+pub returns-else-n : goal.returns-else-n
 unfolding twos signed
-returns c = rw c.if-negative.false
+returns-else-n c = rw c.if-n.false

@@ -20,13 +20,13 @@ returns c =
     let t = c.requires.2 in
     let p = c.put_blanks in (
       search rules,
-      λ raws. rw c.put_entry.ensures
-          (body-takes a.text.now a.raw ok a.under a.waiting t raws a.table.now p.new.table a.count
+      λ raws. rw c.make_row.ensures
+          (body-takes a.text.now a.raw ok a.under a.waiting t raws a.rows.now p.new.rows a.count
           c.trim_end.result c.trim_end.ensures.value
           c.trim_end.ensures.within.1
           (omega (
             arith,
             c.requires.0,
-            p.auto.table,
+            p.auto.rows,
           )) (omega arith) (p.ensures a.text.now)),
     )

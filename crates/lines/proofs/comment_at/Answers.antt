@@ -30,8 +30,8 @@ loop-i-preserved c =
     let e = comment-on a.text.now a.to l.i (search rules) (search rules) l.place s in
     (search rules, search rules, rw c.place_after-place.ensures (omega arith))
 
-pub returns-after-loop-i : goal.returns-after-loop-i
-returns-after-loop-i c =
+pub returns : goal.returns
+returns c =
     let a = c.args in
     let l = c.loop-i in
     let h : l.i ≡ a.to = omega arith in

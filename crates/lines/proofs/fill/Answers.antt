@@ -1,12 +1,8 @@
 use borrow.Author.Rules.{rules}
-use mathlib.Core.Path.{◌∙◌, subst}
-use mathlib.Core.List.{◌∷◌}
+use mathlib.Core.Path.{◌∙◌}
 use native.Mathlib.Omega.{arith}
-use Rattle.refusal.specs.Told.{told_of}
-use Rattle.lines.specs.Lines.{scan}
-use Rattle.lines.specs.Places.{raw_text}
-use Rattle.lines.specs.Table.{Takes}
 use Rattle.lines.proofs.ScanLaws.{lines_start, lines_end, stops}
+use Rattle.lines.proofs.Ends.{filled}
 use Rattle.lines.proofs.fill.Goals as goal
 
 pub loop-at-init : goal.loop-at-init
@@ -19,26 +15,21 @@ loop-at-init c =
       few = search rules;
       waits = search rules;
       long = c.requires.1;
-      lines = lines_start a.text.now a.table.now;
-      placed = λ i h. absurd (omega arith);
+      lines = lines_start a.text.now a.rows.now;
+      placed = λ i d h. absurd (omega arith);
     }
 
-pub returns-in-Refused : goal.returns-in-Refused
-returns-in-Refused c =
+pub returns-in-Err : goal.returns-in-Err
+returns-in-Err c =
     let a = c.args in
     let l = c.loop-at in
     let r = c.raw_at-raw in
-    let at = r.ensures in
-    let n = c.newline_at-newline in
-    let k = subst (Takes a.text.now l.table c.read_line.new.table l.count r.result.number
-    (λ raws. scan l.literal l.waiting r.result.number (raw_text a.text.now r.result ∷ raws))) c.in-Refused.is
-    c.read_line.ensures in
-    let e = told_of c.in-Refused.e in
-    stops a.text.now l.at n.result l.number r.result at l.table l.count l.literal l.waiting l.invariant e.number e.line e.step k
+    (stops a.text.now l.at c.newline_at-newline.result l.number r.result r.ensures l.rows l.taken.count l.taken.literal l.taken.waiting l.invariant _ c.in-Err.ensures)
 
 pub returns : goal.returns
 returns c =
     let a = c.args in
     let l = c.loop-at in
     let v = l.invariant in
-    record { few = v.few; lines = v.lines ∙ lines_end a.text.now l.table l.count l.literal l.waiting l.number l.at (search rules); placed = v.placed }
+    filled a.text.now l.rows l.taken.count (search rules) v.long v.few
+    (v.lines ∙ lines_end a.text.now l.rows l.taken.count l.taken.literal l.taken.waiting l.number l.at (search rules)) v.placed

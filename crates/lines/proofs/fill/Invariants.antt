@@ -5,7 +5,7 @@ use Rattle.lines.proofs.ScanLaws.{Scanned}
 use Rattle.lines.proofs.fill.Given as goal
 
 abbrev pub invariant-loop-at : goal.invariant-loop-at
-invariant-loop-at l = Scanned l.text l.table l.at l.number l.count l.literal l.waiting
+invariant-loop-at l = Scanned l.text l.rows l.at l.number l.taken.count l.taken.literal l.taken.waiting
 
 abbrev pub decreases-loop-at : goal.decreases-loop-at
 decreases-loop-at l = length l.text + 1 - l.at

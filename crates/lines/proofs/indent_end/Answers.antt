@@ -13,8 +13,8 @@ loop-i-preserved c =
     let e = indent-on a.text.now a.to l.i (search rules) (search rules) (search rules) in
     (search rules, search rules, omega arith)
 
-pub returns-after-loop-i : goal.returns-after-loop-i
-returns-after-loop-i c =
+pub returns : goal.returns
+returns c =
     let a = c.args in
     let l = c.loop-i in
     let h : l.i ≡ a.to = omega arith in

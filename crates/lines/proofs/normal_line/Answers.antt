@@ -15,7 +15,7 @@ returns-then-end-start c =
     let e = c.trim_end-end in
     let sig = raw-significant a.text.now a.raw ok m.result e.result m.ensures.0 m.ensures.1 e.ensures.value in
     let t = c.requires.2 in
-    (search rules, none-takes a.text.now a.raw ok e.result sig t a.table.now a.count c.requires.3 c.if-end-start.true)
+    (search rules, none-takes a.text.now a.raw ok e.result sig t a.rows.now a.count c.requires.3 c.if-end-start.true)
 
 pub returns-then-is_marker : goal.returns-then-is_marker
 returns-then-is_marker c =
@@ -46,11 +46,11 @@ returns c =
     let sig = raw-significant a.text.now a.raw ok m.result e.result m.ensures.0 m.ensures.1 e.ensures.value in
     let t = c.requires.2 in (
       search rules,
-      λ raws. rw (c.put_entry.ensures, c.literal_after.ensures)
+      λ raws. rw (c.make_row.ensures, c.literal_after.ensures)
           (entry-takes a.text.now a.raw ok e.result sig t
           (omega (arith, c.if-end-start.false)) (omega arith)
           (sym c.is_marker.ensures
-          ∙ c.if-is_marker.false) a.table.now a.count
+          ∙ c.if-is_marker.false) a.rows.now a.count
           (omega (
             arith,
             c.requires.0,

@@ -11,13 +11,13 @@ pub returns-in-Blank : goal.returns-in-Blank
 returns-in-Blank c =
     let a = c.args in
     let ok : IsRaw a.text.now a.raw = c.requires.1 in
-    (search rules, λ raws. took_of (scan-blank a.text.now a.raw ok a.waiting raws a.literal _ (sym c.way_of-way.ensures ∙ c.in-Blank.is)) refl (took-none a.text.now a.table.now a.count _ (search rules)))
+    (search rules, λ raws. took_of (scan-blank a.text.now a.raw ok a.before.waiting raws a.before.literal _ (sym c.way_of-way.ensures ∙ c.in-Blank.is)) refl (took-none a.text.now a.rows.now a.before.count _ (search rules)))
 
 pub returns-then-tab_leads : goal.returns-then-tab_leads
 returns-then-tab_leads c =
     let a = c.args in
     let ok : IsRaw a.text.now a.raw = c.requires.1 in
-    λ raws. tab-stops a.text.now a.raw ok a.waiting raws a.literal c.way_of-way.result (sym c.way_of-way.ensures) c.in_default.not-Blank (2048 - a.count)
+    λ raws. tab-stops a.text.now a.raw ok a.before.waiting raws a.before.literal c.way_of-way.result (sym c.way_of-way.ensures) c.in_default.not-Blank (2048 - a.before.count)
     (sym (raw-tab a.text.now a.raw ok) ∙ sym c.tab_leads.ensures ∙ c.if-tab_leads.true)
 
 pub body_line-requires : goal.body_line-requires
@@ -30,8 +30,8 @@ pub returns-in-Body : goal.returns-in-Body
 returns-in-Body c =
     let a = c.args in
     let ok : IsRaw a.text.now a.raw = c.requires.1 in
-    takes_of a.text.now a.table.now _ a.count a.raw.number _ _ c.body_line.result
-    (λ raws. scan-body a.text.now a.raw ok a.waiting raws a.literal _ (sym c.way_of-way.ensures ∙ c.in-Body.is)) c.body_line.ensures
+    takes_of a.text.now a.rows.now _ a.before.count a.raw.number _ _ c.body_line.result
+    (λ raws. scan-body a.text.now a.raw ok a.before.waiting raws a.before.literal _ (sym c.way_of-way.ensures ∙ c.in-Body.is)) c.body_line.ensures
 
 pub normal_line-requires : goal.normal_line-requires
 normal_line-requires c =
@@ -44,5 +44,5 @@ returns c =
     let a = c.args in
     let ok : IsRaw a.text.now a.raw = c.requires.1 in
     let w = c.way_of-way in
-    takes_of a.text.now a.table.now _ a.count a.raw.number _ _ c.normal_line.result
-    (λ raws. scan-normal a.text.now a.raw ok a.waiting raws a.literal w.result (sym w.ensures) c.in_default.not-Blank c.in_default-way.not-Body) c.normal_line.ensures
+    takes_of a.text.now a.rows.now _ a.before.count a.raw.number _ _ c.normal_line.result
+    (λ raws. scan-normal a.text.now a.raw ok a.before.waiting raws a.before.literal w.result (sym w.ensures) c.in_default.not-Blank c.in_default-way.not-Body) c.normal_line.ensures

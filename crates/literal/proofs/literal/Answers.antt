@@ -1,26 +1,22 @@
 -- No line, a line that is not deeper than the key, or the first line of the literal. Assumes nothing.
 use native.Mathlib.Omega.{arith}
-use lib.ListN.{length}
-use Rattle.lines.specs.Table.{table_lines}
-use Rattle.lines.proofs.Rows.{rows-length}
+use Rattle.writer.specs.Writing.{cap_of}
 use Rattle.literal.proofs.Whole.{literal-none, literal-beside, literal_under_lem}
 use Rattle.literal.proofs.literal.Goals as goal
+use Rattle.literal.proofs.literal.Goals.{then-i-len+else-indent-under, else-i-len}
 
-pub returns-then-i-count : goal.returns-then-i-count
-returns-then-i-count c =
+pub returns-then-indent-under : goal.returns-then-indent-under
+returns-then-indent-under c =
     let a = c.args in
-    rw (literal-none a.text.now a.table.now a.count (length a.out.now) a.strip a.under a.at a.i (omega arith))
-    (c.put_empty.ensures (table_lines a.text.now a.table.now a.count) (omega (arith, rows-length a.text.now a.table.now a.count)))
-
-pub returns-then-entry-under : goal.returns-then-entry-under
-returns-then-entry-under c =
-    let a = c.args in
-    let e = c.entry_at-entry in
-    rw (literal_under_lem a.text.now a.table.now a.count (length a.out.now) a.strip a.under a.at a.i (omega arith) e.result.indent e.ensures.indent' (omega arith))
+    rw (literal_under_lem a.lines.now (cap_of a.writer.now) a.strip a.under a.writer.now.used a.i (omega arith) c.indent-indent.result c.indent-indent.ensures.value (omega arith))
     c.put_literal.ensures
 
 pub returns : goal.returns
 returns c =
     let a = c.args in
-    rw (literal-beside a.text.now a.table.now a.count (length a.out.now) a.strip a.under a.at a.i (omega arith) (omega arith))
-    (c.put_empty-2.ensures (table_lines a.text.now a.table.now a.count) (omega (arith, rows-length a.text.now a.table.now a.count)))
+    let e = c.put_empty.ensures a.lines.now c.requires in
+    elim c.if-i-len.branch [
+      | then-i-len+else-indent-under w ↦
+          rw (literal-beside a.lines.now (cap_of a.writer.now) a.strip a.under a.writer.now.used a.i (omega (arith, w.if-i-len.true)) (rw (← w.indent-indent.ensures.value) w.if-indent-under.false)) e
+      | else-i-len w ↦ rw (literal-none a.lines.now (cap_of a.writer.now) a.strip a.under a.writer.now.used a.i (omega (arith, w.if-i-len.false))) e
+    ]

@@ -1,19 +1,23 @@
 -- A header of no bytes is the empty string. Assumes nothing.
-use borrow.Author.Rules.{rules}
 use mathlib.Core.Path.{refl}
 use mathlib.Core.List.{[]}
-use Prim.Native.Nat.{◌+◌}
 use native.Mathlib.Omega.{arith}
-use lib.ListN.{length, drop}
+use lib.ListN.{drop}
+use Rattle.std.proofs.lemmas.Result.{err_from_is_err_and}
+use Rattle.writer.specs.Writing.{cap_of}
+use Rattle.writer.proofs.Laws.{appends_none, keeps_same}
 use Rattle.literal.proofs.Laws.{leaf-short, wrote-string}
 use Rattle.literal.proofs.put_empty.Goals as goal
 
-pub returns-then-out-at-lt6 : goal.returns-then-out-at-lt6
-returns-then-out-at-lt6 c = λ ls h.
+pub returns-in_err-reserve : goal.returns-in_err-reserve
+returns-in_err-reserve c = λ ls h.
     let a = c.args in
-    record { is = leaf-short (length a.out.now) a.at [] (drop a.i ls) (omega arith); kept = refl }
+    let w = a.writer.now in
+    let p = err_from_is_err_and c.from_residual.result c.from_residual.ensures.1 in
+    let e = c.in_err-reserve.ensures in
+    rw (p.1, p.2, e.1) (record { is = leaf-short (cap_of w) w.used [] (drop a.i ls) (omega (arith, e.0)); keeps = keeps_same refl })
 
 pub returns : goal.returns
 returns c = λ ls h.
     let a = c.args in
-    wrote-string ls a.i a.out.now a.at a.i (a.at + 6) [] (search rules) (omega arith) (search rules) h c.put_header.ensures
+    wrote-string ls a.i a.writer.now _ _ a.i [] (omega arith) h c.header.ensures (appends_none _)

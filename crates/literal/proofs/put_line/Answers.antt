@@ -1,26 +1,32 @@
--- Three runs of stores, one behind the other. Assumes nothing.
-use mathlib.Core.Path.{ap, ◌∙◌}
-use mathlib.Core.List.{List}
-use Prim.Native.Nat.{ℕ, ◌+◌}
+-- Three runs of bytes, one behind the other. Assumes nothing.
 use native.Mathlib.Omega.{arith}
-use lib.ListN.{length, set, length-set}
-use lib.Seq.{sets}
+use lib.ListN.{length-replicate}
 use Rattle.refusal.specs.Base.{ch}
-use Rattle.literal.proofs.Laws.{line-front, line-whole, line-cut}
+use Rattle.writer.proofs.Laws.{appends_more, len_appended}
+use Rattle.literal.proofs.Laws.{line-whole, line-cut}
 use Rattle.literal.proofs.put_line.Goals as goal
 
-pub shape_of-out-then-end-to : goal.shape_of-out-then-end-to
-shape_of-out-then-end-to c = simp length-set (omega arith)
+pub put-requires : goal.put-requires
+put-requires c =
+    let p = c.put_spaces.ensures in
+    omega (arith, c.requires.line, c.requires.room, p.used, len_appended p, length-replicate c.args.spaces (ch " "))
 
-pub returns-then-end-to : goal.returns-then-end-to
-returns-then-end-to c =
-    let a = c.args in
-    let x = c.copy.ensures ∙ ap (λ (o : List ℕ). sets o (a.at + a.spaces) a.line.now) c.put_spaces.ensures in
-    ap (λ (o : List ℕ). set o (a.at + a.spaces + length a.line.now) (ch "\n")) (x ∙ line-front a.out.now a.line.now a.at a.spaces a.to)
-    ∙ line-whole a.out.now a.line.now a.at a.spaces a.to (omega arith)
+pub push-requires : goal.push-requires
+push-requires c =
+    let p = c.put_spaces.ensures in
+    let q = c.put.ensures in
+    omega (arith, c.requires.room, c.used.ensures, c.if-used-to.true, len_appended p, len_appended q)
 
-pub returns-else-end-to : goal.returns-else-end-to
-returns-else-end-to c =
+pub returns-then-used-to : goal.returns-then-used-to
+returns-then-used-to c =
     let a = c.args in
-    let x = c.copy.ensures ∙ ap (λ (o : List ℕ). sets o (a.at + a.spaces) a.line.now) c.put_spaces.ensures in
-    x ∙ line-front a.out.now a.line.now a.at a.spaces a.to ∙ line-cut a.out.now a.line.now a.at a.spaces a.to (omega arith)
+    let p = appends_more c.put_spaces.ensures c.put.ensures in
+    line-whole a.writer.now _ a.line.now a.spaces a.to p
+    (omega (arith, c.put_spaces.ensures.used, c.put.ensures.used, c.used.ensures, c.if-used-to.true, length-replicate a.spaces (ch " "))) c.push.ensures
+
+pub returns-else-used-to : goal.returns-else-used-to
+returns-else-used-to c =
+    let a = c.args in
+    let p = appends_more c.put_spaces.ensures c.put.ensures in
+    line-cut a.writer.now _ a.line.now a.spaces a.to p
+    (omega (arith, c.requires.line, c.put_spaces.ensures.used, c.put.ensures.used, c.used.ensures, c.if-used-to.false, length-replicate a.spaces (ch " ")))

@@ -1,25 +1,21 @@
-use borrow.Author.Rules.{rules}
-use mathlib.Core.Path.{◌≡◌, refl, ap, ◌∙◌}
-use mathlib.Core.List.{List}
-use Prim.Native.Nat.{ℕ, ◌+◌}
+use mathlib.Core.Path.{◌≡◌, refl, sym, ap, ◌∙◌}
 use native.Mathlib.Omega.{arith}
-use lib.ListN.{set, length-set}
+use Prim.Native.Nat.{ℕ, ◌+◌, ◌-◌}
+use lib.ListN.{length, take, drop, replicate, length-drop, length-replicate}
+use lib.Seq.{length-take-le}
 use Rattle.refusal.specs.Base.{ch}
-use Rattle.literal.proofs.Laws.{sets_same}
+use Rattle.literal.proofs.Laws.{part_filled}
 use Rattle.literal.proofs.put_spaces.Goals as goal
-
-pub loop-i-init : goal.loop-i-init
-loop-i-init c = (search rules, refl, refl)
-
-pub loop-i-preserved : goal.loop-i-preserved
-loop-i-preserved c =
-    let a = c.args in
-    let l = c.loop-i in
-    (search rules, simp length-set (search rules), ap (λ (x : List ℕ). set x (a.at + l.i) (ch " ")) l.invariant.2 ∙ sets_same a.out.now a.at l.i (ch " "))
 
 pub returns : goal.returns
 returns c =
     let a = c.args in
-    let l = c.loop-i in
-    let e : l.i ≡ a.n = omega arith in
-    l.invariant.2 ∙ rw e
+    let w = a.writer.now in
+    let n = length-drop w.used w.out.now in
+    let k : ℕ = w.used + a.n - w.used in
+    let l : length (take k (drop w.used w.out.now)) ≡ a.n = length-take-le k (drop w.used w.out.now) (omega (arith, n, c.requires, w.within)) ∙ omega arith in
+    record {
+      same_reference = refl;
+      out = part_filled w.out.now c.fill.new.self w.used a.n (ch " ") (omega (arith, c.requires, w.within)) (c.fill.ensures.after (λ y e. e) ∙ ap (λ (m : ℕ). replicate m (ch " ")) l);
+      used = ap (λ (m : ℕ). w.used + m) (sym (length-replicate a.n (ch " ")));
+    }

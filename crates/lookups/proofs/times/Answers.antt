@@ -1,6 +1,5 @@
 -- The value beside `times`, and what it comes to. Assumes nothing.
-use native.Mathlib.Omega.{arith}
-use mathlib.Core.Path.{sym, ap, ◌∙◌}
+use Rattle.std.proofs.Common.{sym, ap, ◌∙◌, arith}
 use Rattle.refusal.specs.Base.{bytes}
 use Rattle.record.specs.Jobs.{lookup_of}
 use Rattle.lookups.proofs.Numbers.{times-refused, times-missing, times-found}
@@ -9,24 +8,24 @@ use Rattle.lookups.proofs.times.Goals as goal
 pub overflow_cast-number : goal.overflow_cast-number
 unfolding bytes
 overflow_cast-number c =
-    let w = times-found _ _ (λ i. omega (arith, c.shared_slice_known-1.given i)) (ap lookup_of (sym c.in-Found.is) ∙ c.value_by_key.ensures) in
+    let w = times-found _ _ (λ i. omega (arith, c.type_inv.«record» i)) (ap lookup_of (sym c.in-Found.is) ∙ c.value_by_key.ensures) in
     omega (arith, w.small)
 
 pub times_at-requires : goal.times_at-requires
 unfolding bytes
 times_at-requires c =
-    (times-found _ _ (λ i. omega (arith, c.shared_slice_known-1.given i)) (ap lookup_of (sym c.in-Found.is) ∙ c.value_by_key.ensures)).size
+    (times-found _ _ (λ i. omega (arith, c.type_inv.«record» i)) (ap lookup_of (sym c.in-Found.is) ∙ c.value_by_key.ensures)).size
 
 pub returns-in-Found : goal.returns-in-Found
 unfolding bytes
 returns-in-Found c =
-    let w = times-found _ _ (λ i. omega (arith, c.shared_slice_known-1.given i)) (ap lookup_of (sym c.in-Found.is) ∙ c.value_by_key.ensures) in
-    c.times_at.ensures w.value w.found.fits w.found.stands ∙ w.is
+    let w = times-found _ _ (λ i. omega (arith, c.type_inv.«record» i)) (ap lookup_of (sym c.in-Found.is) ∙ c.value_by_key.ensures) in
+    c.from.ensures ∙ c.times_at.ensures w.value w.found.fits w.found.stands ∙ w.is
 
 pub returns-in-Nothing : goal.returns-in-Nothing
 unfolding bytes
 returns-in-Nothing c =
-    (times-missing _ _ (λ i. omega (arith, c.shared_slice_known-1.given i)) (ap lookup_of (sym c.in-Nothing.is) ∙ c.value_by_key.ensures)).0
+    (times-missing _ _ (λ i. omega (arith, c.type_inv.«record» i)) (ap lookup_of (sym c.in-Nothing.is) ∙ c.value_by_key.ensures)).0
 
 pub returns-in-Refused : goal.returns-in-Refused
 unfolding bytes
@@ -35,5 +34,5 @@ returns-in-Refused c = times-refused _ _ (ap lookup_of (sym c.in-Refused.is) ∙
 pub overflow_cast-result : goal.overflow_cast-result
 unfolding bytes
 overflow_cast-result c =
-    let w = times-missing _ _ (λ i. omega (arith, c.shared_slice_known-1.given i)) (ap lookup_of (sym c.in-Nothing.is) ∙ c.value_by_key.ensures) in
+    let w = times-missing _ _ (λ i. omega (arith, c.type_inv.«record» i)) (ap lookup_of (sym c.in-Nothing.is) ∙ c.value_by_key.ensures) in
     omega (arith, w.1)

@@ -10,4 +10,4 @@ pub loop-left-preserved : goal.loop-left-preserved
 loop-left-preserved c = let e = length_more c.loop-left.left (search rules) (search rules) in (omega arith, omega arith, omega arith)
 
 pub returns : goal.returns
-returns c = let e = length-one c.loop-left.left (search rules) in (omega arith, omega arith)
+returns c = let e = length-one c.loop-left.left (search rules) in record { length = omega arith; at_most = omega arith }

@@ -1,14 +1,11 @@
 -- The invariant: the digits from here on, with what is read before them, make the number that all of them make. Assumes nothing.
 use mathlib.Core.Path.{◌≡◌}
-use Prim.Native.Nat.{◌≤◌, ◌-◌}
-use lib.ListN.{length, drop}
+use Prim.Native.Nat.{◌≤◌}
+use lib.ListN.{drop}
 use Rattle.number.specs.Integers.{digits}
 use Rattle.number.specs.Code.{bounded}
 use Rattle.number.proofs.Laws.{digits_from}
 use Rattle.number.proofs.digits.Given as goal
 
-abbrev pub invariant-loop-i : goal.invariant-loop-i
-invariant-loop-i l = (l.i ≤ length l.t) × (l.magnitude ≤ l.limit) × (bounded l.negative l.limit (digits (drop l.from l.t)) ≡ bounded l.negative l.limit (digits_from l.magnitude (drop l.i l.t)))
-
-abbrev pub decreases-loop-i : goal.decreases-loop-i
-decreases-loop-i l = length l.t - l.i
+abbrev pub invariant-loop-b : goal.invariant-loop-b
+invariant-loop-b l = (l.magnitude ≤ l.limit) × (bounded l.negative l.limit (digits (drop l.from l.t)) ≡ bounded l.negative l.limit (digits_from l.magnitude (drop l.b-index l.b-items)))

@@ -1,13 +1,17 @@
 -- By the first byte. Assumes nothing.
-use mathlib.Core.Path.{sym, ◌∙◌}
+use mathlib.Core.Path.{sym, ap, ◌∙◌}
+use native.Mathlib.Omega.{arith}
+use Rattle.number.specs.Code.{int_of}
 use Rattle.number.proofs.Laws.{int-none, int-minus, int-bare}
 use Rattle.number.proofs.integer.Goals as goal
 
-pub returns-then-t-eq0 : goal.returns-then-t-eq0
-returns-then-t-eq0 c = sym (int-none c.args.t.now c.if-t-eq0.true)
+pub returns-in_err-first : goal.returns-in_err-first
+returns-in_err-first c = ap int_of c.from_residual.ensures ∙ sym (int-none c.args.t.now (omega (arith, c.in_err-first.ensures.item.3)))
 
-pub returns-then-t-eq45 : goal.returns-then-t-eq45
-returns-then-t-eq45 c = c.digits.ensures ∙ sym (int-minus c.args.t.now c.if-t-eq0.false c.if-t-eq45.true)
+pub returns-then-first-eq45 : goal.returns-then-first-eq45
+returns-then-first-eq45 c = let k = c.in_ok-first.ensures.item.3 in
+    c.digits.ensures ∙ sym (int-minus c.args.t.now (λ e. omega arith) (sym (k.1 0) ∙ c.if-first-eq45.true))
 
 pub returns : goal.returns
-returns c = c.digits-2.ensures ∙ sym (int-bare c.args.t.now c.if-t-eq0.false c.if-t-eq45.false)
+returns c = let k = c.in_ok-first.ensures.item.3 in
+    c.digits-2.ensures ∙ sym (int-bare c.args.t.now (λ e. omega arith) (λ e. c.if-first-eq45.false (k.1 0 ∙ e)))

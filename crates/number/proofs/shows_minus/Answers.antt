@@ -2,8 +2,8 @@
 use Rattle.number.proofs.Laws.{text-minus, text-bare}
 use Rattle.number.proofs.shows_minus.Goals as goal
 
-pub returns-then-negative : goal.returns-then-negative
-returns-then-negative c = rw c.if-negative.true (text-minus c.args.magnitude)
+pub returns-then-n : goal.returns-then-n
+returns-then-n c = rw c.if-n.true (text-minus c.args.n.magnitude)
 
-pub returns : goal.returns
-returns c = rw c.if-negative.false (text-bare c.args.magnitude)
+pub returns-else-n : goal.returns-else-n
+returns-else-n c = rw c.if-n.false (text-bare c.args.n.magnitude)

@@ -1,10 +1,6 @@
--- The invariant: the positions before `i` are written. Assumes nothing.
-use Prim.Native.Nat.{◌-◌}
+-- The positions before `i` are written. Assumes nothing.
 use Rattle.pair_logs.proofs.Turns.{Resting}
 use Rattle.pair_logs.proofs.rest.Given as goal
 
 abbrev pub invariant-loop-i : goal.invariant-loop-i
 invariant-loop-i l = Resting l.times l.from l.before l.paired l.initial.list l.list l.last l.i
-
-abbrev pub decreases-loop-i : goal.decreases-loop-i
-decreases-loop-i l = l.i-end - l.i

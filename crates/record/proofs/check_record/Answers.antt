@@ -1,69 +1,15 @@
--- One item of kind 16, nothing behind it, and its fields. Assumes nothing.
-use Rattle.refusal.specs.Base.{given, limit}
-use mathlib.Core.Path.{sym, ap, ◌∙◌, subst}
-use Prim.Native.Nat.{◌≤◌}
-use native.Mathlib.Omega.{arith}
-use lib.ListN.{length}
-use Rattle.record.specs.Contract.{ItemAt, ItemEnds, count_of}
-use Rattle.record.proofs.Answers.{check₁, check₂, check₃, check₄}
+-- A record is good where its steps are counted. Assumes nothing.
+use Rattle.std.proofs.Common.{sym, ap, ◌∙◌, ℕ}
+use Rattle.std.proofs.Math.Option.{Option}
+use Rattle.refusal.specs.Base.{given}
+use Rattle.record.specs.Contract.{count_of}
+use Rattle.record.proofs.Answers.{checked}
 use Rattle.record.proofs.check_record.Goals as goal
 
-pub returns-then-record-gt-LIMIT : goal.returns-then-record-gt-LIMIT
-returns-then-record-gt-LIMIT c =
-    check₁ c.args.«record».now c.if-record-gt-LIMIT.true
-
-pub returns-in_default : goal.returns-in_default
-returns-in_default c =
-    let h : length c.args.«record».now ≤ limit = omega arith in
-    check₂ c.args.«record».now h (subst (ItemEnds 16 c.args.«record».now 0) c.in_default.is c.item_of-whole.ensures)
-
-pub returns-then-end-record : goal.returns-then-end-record
-returns-then-end-record c =
-    let w : ItemAt 16 c.args.«record».now 0 c.in-At.end = subst
-    (ItemEnds 16 c.args.«record».now 0) c.in-At.is
-    c.item_of-whole.ensures in
-    let h : length c.args.«record».now ≤ limit = omega arith in
-    check₃ c.args.«record».now h w c.if-end-record.true
-
-pub slice_bounds-fields-count : goal.slice_bounds-fields-count
-slice_bounds-fields-count c =
-    let w : ItemAt 16 c.args.«record».now 0 c.in-At.end = subst
-    (ItemEnds 16 c.args.«record».now 0) c.in-At.is
-    c.item_of-whole.ensures in
-    w.forward
-
-pub slice_bounds-fields-start : goal.slice_bounds-fields-start
-slice_bounds-fields-start c =
-    let w : ItemAt 16 c.args.«record».now 0 c.in-At.end = subst
-    (ItemEnds 16 c.args.«record».now 0) c.in-At.is
-    c.item_of-whole.ensures in
-    w.forward
-
-pub slice_bounds-fields-end : goal.slice_bounds-fields-end
-slice_bounds-fields-end c =
-    let w : ItemAt 16 c.args.«record».now 0 c.in-At.end = subst
-    (ItemEnds 16 c.args.«record».now 0) c.in-At.is
-    c.item_of-whole.ensures in
-    w.fits
-
-pub returns-in-Steps : goal.returns-in-Steps
+pub returns-in-Some : goal.returns-in-Some
 unfolding given
-returns-in-Steps c =
-    let w : ItemAt 16 c.args.«record».now 0
-    c.in-At.end = subst
-    (ItemEnds 16 c.args.«record».now 0)
-    c.in-At.is
-    c.item_of-whole.ensures in
-    let h : length c.args.«record».now ≤ limit = omega arith in
-    check₄ c.args.«record».now h w c.if-end-record.false _ (ap count_of (sym c.in-Steps.is) ∙ c.fields.ensures)
+returns-in-Some c = ap (λ (o : Option ℕ). given o 40 0 0) (ap count_of (sym c.in-Some.is) ∙ c.whole.ensures) ∙ checked c.args.«record».now
 
-pub returns-in-Bad : goal.returns-in-Bad
+pub returns-in-None : goal.returns-in-None
 unfolding given
-returns-in-Bad c =
-    let w : ItemAt 16 c.args.«record».now 0
-    c.in-At.end = subst
-    (ItemEnds 16 c.args.«record».now 0)
-    c.in-At.is
-    c.item_of-whole.ensures in
-    let h : length c.args.«record».now ≤ limit = omega arith in
-    check₄ c.args.«record».now h w c.if-end-record.false _ (ap count_of (sym c.in-Bad.is) ∙ c.fields.ensures)
+returns-in-None c = ap (λ (o : Option ℕ). given o 40 0 0) (ap count_of (sym c.in-None.is) ∙ c.whole.ensures) ∙ checked c.args.«record».now

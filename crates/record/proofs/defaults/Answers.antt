@@ -1,36 +1,21 @@
--- Two fields in turn. Assumes nothing.
-use mathlib.Core.Path.{subst}
-use Rattle.value.specs.Walks.{Walks}
-use Rattle.record.specs.Read.{field_of, as_optional}
-use Rattle.record.proofs.Views.{optional-walks}
-use Rattle.record.proofs.Chains.{defaults₁, defaults₂, defaults₃}
+-- Two fields, and nothing behind them. Assumes nothing.
+use Rattle.refusal.specs.Base.{maybe}
+use Rattle.item.specs.Decode.{◌>>=◌}
+use Rattle.record.specs.Read.{defaults_in}
+use Rattle.record.specs.Contract.{is_some, are_defaults}
+use Rattle.record.proofs.Invariants.{ended}
 use Rattle.record.proofs.defaults.Goals as goal
 
-pub returns-in_default : goal.returns-in_default
-returns-in_default c = defaults₁ c.args.s.now
-    (subst (Walks (field_of as_optional 0) c.args.s.now 0) c.in_default.is
-    (optional-walks 0 c.args.s.now 0 c.value_of-timeout.result c.value_of-timeout.ensures))
+pub returns-in_err-wall_budget : goal.returns-in_err-wall_budget
+unfolding are_defaults is_some maybe defaults_in ◌>>=◌
+returns-in_err-wall_budget c = rw (c.from_residual.ensures, c.in_err-wall_budget.ensures)
 
-pub returns-in_default-wall_budget : goal.returns-in_default-wall_budget
-returns-in_default-wall_budget c = defaults₂ c.args.s.now
-    (subst (Walks (field_of as_optional 0) c.args.s.now 0)
-    c.in-At.is
-    (optional-walks 0 c.args.s.now 0
-    c.value_of-timeout.result c.value_of-timeout.ensures))
-    (subst (Walks (field_of as_optional 0) c.args.s.now
-    c.in-At.a) c.in_default-wall_budget.is
-    (optional-walks 0 c.args.s.now
-    c.in-At.a c.value_of-wall_budget.result c.value_of-wall_budget.ensures))
+pub returns-in_err-end : goal.returns-in_err-end
+unfolding are_defaults is_some maybe defaults_in ◌>>=◌
+returns-in_err-end c = rw (c.from_residual-in_err-end.ensures, c.in_ok-wall_budget.ensures.is, c.in_err-end.ensures)
 
 pub returns : goal.returns
-returns c = defaults₃ c.args.s.now
-    (subst (Walks (field_of as_optional 0) c.args.s.now 0)
-    c.in-At.is
-    (optional-walks 0 c.args.s.now 0
-    c.value_of-timeout.result
-    c.value_of-timeout.ensures))
-    (subst (Walks (field_of as_optional 0) c.args.s.now
-    c.in-At.a) c.in-At-wall_budget.is
-    (optional-walks 0 c.args.s.now
-    c.in-At.a c.value_of-wall_budget.result
-    c.value_of-wall_budget.ensures))
+unfolding are_defaults defaults_in ◌>>=◌
+returns c =
+    let last = c.in_ok-end.ensures in
+    rw (c.then_some.ensures, c.in_ok-wall_budget.ensures.is, last.is) (ended _ c.args.s.now c.in_ok-end.end last.fits)

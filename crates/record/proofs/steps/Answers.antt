@@ -1,102 +1,86 @@
+-- One step after the other. Assumes nothing.
 use borrow.Author.Rules.{rules}
-use mathlib.Core.Path.{sym, ◌∙◌, subst}
-use Prim.Native.Nat.{ℕ, ◌+◌, ◌-◌}
-use native.Mathlib.Omega.{arith}
-use mathlib.Core.List.{List}
-use Rattle.value.proofs.Invariants.{part_small}
+use Rattle.std.proofs.Common.{◌≡◌, sym, ◌∙◌, subst, ℕ, ◌-◌, ◌+◌, take, drop, arith}
+use mathlib.Core.Bool.{true, false}
+use Rattle.item.proofs.Headers.{no_header}
 use Rattle.record.specs.Read.{in_item, step_in}
-use Rattle.record.specs.Contract.{ItemAt, ItemEnds}
+use Rattle.record.specs.Contract.{is_step}
+use Rattle.record.proofs.Chains.{no_item, content-read, content-refused, steps-end, steps-fail, steps_next}
+use Rattle.record.proofs.Headers.{is-ok, is-err, no-content-at, content-here, content-other}
 use Rattle.record.proofs.Invariants.{Left, left-start}
-use Rattle.record.proofs.Chains.{steps-end, steps-item, steps-fail, steps_next}
+use Rattle.record.proofs.Turns.{turn, stop}
 use Rattle.record.proofs.steps.Goals as goal
 
-pub loop-at-init : goal.loop-at-init
-loop-at-init c =
-    (omega arith, omega arith, left-start)
+pub loop-item-init : goal.loop-item-init
+loop-item-init c =
+    let start : c.into_iter-item-iterator.result.at ≡ 0 = search rules in
+    record {
+      bytes = search rules;
+      to = search rules;
+      inside = omega arith;
+      few = omega arith;
+      left = subst (λ (n : ℕ). Left (in_item 19 step_in) c.args.s.now n 0) (sym start) left-start;
+    }
 
-pub returns-in_default : goal.returns-in_default
-returns-in_default c =
-    let l = c.loop-at in
-    steps-item l.invariant.2 c.loop-at-test.true (subst (ItemEnds 19 c.args.s.now l.at) c.in_default.is c.item_of-end.ensures)
+pub returns-in_err-item : goal.returns-in_err-item
+returns-in_err-item c =
+    let i = c.loop-item.invariant in
+    let s = c.args.s.now in
+    let at = c.loop-item.item-iterator.at in
+    let t = stop _ _ i.bytes i.to c.in-Some.ensures.steps (is-err (sym c.in_err-item.was ∙ c.ok.ensures.value)).1 in
+    rw c.from_residual.ensures (steps-fail i.left t.before (no_item 19 step_in (drop at s) (no-content-at 19 s at (no_header s at t.is))))
 
-pub overflow_add-at : goal.overflow_add-at
-overflow_add-at c =
-    let s : List ℕ = c.args.s.now in
-    let from : ℕ = c.loop-at.at in
-    let to : ℕ = c.in-At.next in
-    let held : ItemAt 19 (s) (from) (to) = subst (ItemEnds 19 (s) (from)) c.in-At.is c.item_of-end.ensures in
-    omega (arith, (held).forward, (held).fits)
+pub returns-then-item : goal.returns-then-item
+returns-then-item c =
+    let i = c.loop-item.invariant in
+    let s = c.args.s.now in
+    let at = c.loop-item.item-iterator.at in
+    let t = turn _ _ i.bytes i.to c.in-Some.ensures.steps (is-ok (sym c.in_ok-item.was ∙ c.ok.ensures.value)) in
+    steps-fail i.left t.before (no_item 19 step_in (drop at s) (content-other 19 s at t.is c.if-item.true))
 
 pub slice_bounds-step_content-count : goal.slice_bounds-step_content-count
 slice_bounds-step_content-count c =
-    let s : List ℕ = c.args.s.now in
-    let from : ℕ = c.loop-at.at in
-    let to : ℕ = c.in-At.next in
-    let held : ItemAt 19 (s) (from) (to) = subst (ItemEnds 19 (s) (from)) c.in-At.is c.item_of-end.ensures in
-    (held).forward
+    let i = c.loop-item.invariant in
+    (turn _ _ i.bytes i.to c.in-Some.ensures.steps (is-ok (sym c.in_ok-item.was ∙ c.ok.ensures.value))).spans.order
 
 pub slice_bounds-step_content-start : goal.slice_bounds-step_content-start
 slice_bounds-step_content-start c =
-    let s : List ℕ = c.args.s.now in
-    let from : ℕ = c.loop-at.at in
-    let to : ℕ = c.in-At.next in
-    let held : ItemAt 19 (s) (from) (to) = subst (ItemEnds 19 (s) (from)) c.in-At.is c.item_of-end.ensures in
-    (held).forward
+    let i = c.loop-item.invariant in
+    (turn _ _ i.bytes i.to c.in-Some.ensures.steps (is-ok (sym c.in_ok-item.was ∙ c.ok.ensures.value))).spans.order
 
 pub slice_bounds-step_content-end : goal.slice_bounds-step_content-end
 slice_bounds-step_content-end c =
-    let s : List ℕ = c.args.s.now in
-    let from : ℕ = c.loop-at.at in
-    let to : ℕ = c.in-At.next in
-    let held : ItemAt 19 (s) (from) (to) = subst (ItemEnds 19 (s) (from)) c.in-At.is c.item_of-end.ensures in
-    (held).fits
+    let i = c.loop-item.invariant in
+    (turn _ _ i.bytes i.to c.in-Some.ensures.steps (is-ok (sym c.in_ok-item.was ∙ c.ok.ensures.value))).spans.fits
 
-pub step_content-requires : goal.step_content-requires
-step_content-requires c =
-    let s : List ℕ = c.args.s.now in
-    let from : ℕ = c.loop-at.at in
-    let to : ℕ = c.in-At.next in
-    let p = c in part_small (s) (from + 6) (to - (from + 6)) p.requires
+pub returns-in_err-step_content : goal.returns-in_err-step_content
+unfolding is_step
+returns-in_err-step_content c =
+    let i = c.loop-item.invariant in
+    let s = c.args.s.now in
+    let at = c.loop-item.item-iterator.at in
+    let to = c.in_ok-item.item.to in
+    let t = turn _ _ i.bytes i.to c.in-Some.ensures.steps (is-ok (sym c.in_ok-item.was ∙ c.ok.ensures.value)) in
+    let bad = subst (λ (n : ℕ). is_step (take (to - n) (drop n s)) ≡ false) t.spans.start (sym c.in_err-step_content.ensures) in
+    rw c.from_residual-in_err-step_content.ensures (steps-fail i.left t.before (content-refused step_in (content-here 19 s at t.is c.if-item.false) bad))
 
-pub returns-then-not-step_content : goal.returns-then-not-step_content
-returns-then-not-step_content c =
-    let s : List ℕ = c.args.s.now in
-    let from : ℕ = c.loop-at.at in
-    let to : ℕ = c.in-At.next in
-    let held : ItemAt 19 (s) (from) (to) = subst (ItemEnds 19 (s) (from)) c.in-At.is c.item_of-end.ensures in
-    let left : Left (in_item 19 step_in) (s) (from) c.loop-at.count = c.loop-at.invariant.2 in
-    let p = c in
-    let w = c.step_content in
-    steps-fail (left) p.loop-at-test.true (held) (sym w.ensures ∙ c.if-not-step_content.true)
-
-pub overflow_add-count : goal.overflow_add-count
-overflow_add-count c =
-    let s : List ℕ = c.args.s.now in
-    let from : ℕ = c.loop-at.at in
-    let to : ℕ = c.in-At.next in
-    let held : ItemAt 19 (s) (from) (to) = subst (ItemEnds 19 (s) (from)) c.in-At.is c.item_of-end.ensures in
-    let h = held in omega (arith, h.forward, h.fits)
-
-pub loop-at-smaller : goal.loop-at-smaller
-loop-at-smaller c =
-    let s : List ℕ = c.args.s.now in
-    let from : ℕ = c.loop-at.at in
-    let to : ℕ = c.in-At.next in
-    let held : ItemAt 19 (s) (from) (to) = subst (ItemEnds 19 (s) (from)) c.in-At.is c.item_of-end.ensures in
-    let h = held in omega (arith, h.forward, h.fits)
-
-pub loop-at-preserved : goal.loop-at-preserved
-loop-at-preserved c =
-    let s : List ℕ = c.args.s.now in
-    let from : ℕ = c.loop-at.at in
-    let to : ℕ = c.in-At.next in
-    let held : ItemAt 19 (s) (from) (to) = subst (ItemEnds 19 (s) (from)) c.in-At.is c.item_of-end.ensures in
-    let left : Left (in_item 19 step_in) (s) (from) c.loop-at.count = c.loop-at.invariant.2 in
-    let p = c in
-    let w = c.step_content in
-    let h = held in
-    (h.fits, omega (arith, h.forward, h.fits), steps_next (left) p.loop-at-test.true h (sym w.ensures ∙ c.if-not-step_content.false))
+pub loop-item-preserved : goal.loop-item-preserved
+unfolding is_step
+loop-item-preserved c =
+    let i = c.loop-item.invariant in
+    let s = c.args.s.now in
+    let at = c.loop-item.item-iterator.at in
+    let to = c.in_ok-item.item.to in
+    let t = turn _ _ i.bytes i.to c.in-Some.ensures.steps (is-ok (sym c.in_ok-item.was ∙ c.ok.ensures.value)) in
+    let good = subst (λ (n : ℕ). is_step (take (to - n) (drop n s)) ≡ true) t.spans.start (sym c.in_ok-step_content.ensures) in
+    let r = content-read step_in (content-here 19 s at t.is c.if-item.false) good in
+    record {
+      bytes = t.bytes;
+      to = t.end;
+      inside = omega (arith, t.next, r.fits);
+      few = omega (arith, t.next, r.forward);
+      left = subst (λ (n : ℕ). Left (in_item 19 step_in) s n (c.loop-item.count + 1)) (sym t.next) (steps_next i.left t.before r);
+    }
 
 pub returns : goal.returns
-returns c =
-    steps-end c.loop-at.invariant.2 (search rules)
+returns c = steps-end c.loop-item.invariant.left (search rules)

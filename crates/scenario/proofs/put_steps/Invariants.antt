@@ -1,19 +1,15 @@
--- The invariant: for whatever items stand there, the steps of those before `i` and their lines are stored. Assumes nothing.
-use mathlib.Core.Path.{◌≡◌}
-use Prim.Native.Nat.{◌+◌, ◌*◌, ◌-◌, ◌≤◌, ◌^◌}
-use lib.ListN.{length, drop}
+-- The invariant: for whatever items stand there, the steps of those that were passed and their lines are written. Assumes nothing.
+use Rattle.std.proofs.Common.{◌≡◌, ◌-◌, ◌≤◌, length, drop}
 use Rattle.item.specs.Tree.{Items}
-use Rattle.lines.specs.Table.{table_lines}
 use Rattle.step_lines.specs.StepLines.{step_lines, dashes_at}
 use Rattle.entries.specs.Entries.{Holds}
+use Rattle.nodes.specs.Writing.{Goes}
 use Rattle.scenario.proofs.Invariants.{Walked}
 use Rattle.scenario.proofs.put_steps.Given as goal
 
-abbrev pub invariant-loop-i : goal.invariant-loop-i
-invariant-loop-i l = (l.range.from ≤ l.i) × (l.i ≤ length l.s) × (l.steps ≤ l.i - l.range.from)
-    × (l.at + 6 ≤ l.p) × (l.p ≤ l.at + 6 + 2 ^ 24 * (l.i - l.range.from)) × (l.d ≤ l.count) × (length l.out ≡ length l.initial.out) × (length l.lines ≡ length l.initial.lines)
-    × ((ys : Items) → Holds l.s l.range.from l.range.to ys → Walked l.s l.range.to l.i ys (step_lines (table_lines l.text l.table l.count))
-    (dashes_at l.first.indent (drop l.d (table_lines l.text l.table l.count))) l.initial.out l.out (l.at + 6) l.p l.initial.lines l.lines l.steps)
-
-abbrev pub decreases-loop-i : goal.decreases-loop-i
-decreases-loop-i l = l.range.to - l.i
+abbrev pub invariant-loop-item : goal.invariant-loop-item
+invariant-loop-item l =
+    (l.item-iterator.bytes.now ≡ l.s) × (l.item-iterator.to ≡ l.fn.range.to) × (l.fn.range.from ≤ l.item-iterator.at) × (l.item-iterator.at ≤ length l.s)
+    × (l.steps ≤ l.item-iterator.at - l.fn.range.from) × (l.d ≤ length l.text) × Goes l.initial.writer l.writer
+    × ((ys : Items) → Holds l.s l.fn.range.from l.fn.range.to ys → Walked l.s l.fn.range.to l.item-iterator.at ys (step_lines l.text)
+    (dashes_at l.first.indent (drop l.d l.text)) l.initial.writer l.writer l.initial.lines l.lines l.steps)

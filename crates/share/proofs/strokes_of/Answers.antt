@@ -1,15 +1,12 @@
-use native.Mathlib.Omega.{arith}
-use Rattle.share.proofs.Turns.{sum-next, sum-end}
+use Rattle.std.proofs.Common.{rules, ◌≡◌, min, ◌∙◌, sym}
+use Rattle.std.specs.List.{sum_by}
+use Rattle.std.proofs.iter.runs.Made.{chains}
+use Rattle.share.proofs.Laws.{sum_up_to}
 use Rattle.share.proofs.strokes_of.Goals as goal
-
-pub loop-i-preserved : goal.loop-i-preserved
-loop-i-preserved c =
-    let l = c.loop-i in
-    let a = c.args in
-    omega (arith, sum-next a.wishes.now l.i a.rounds c.loop-i-test.true, c.smaller-strokes.ensures)
 
 pub returns : goal.returns
 returns c =
-    let l = c.loop-i in
-    let a = c.args in
-    omega (arith, sum-end a.wishes.now l.i a.rounds c.loop-i-test.false)
+    let n = c.args.rounds in
+    let ws = c.args.wishes.now in
+    let e : c.sum.result ≡ sum_by (λ w. min w n) ws = search (rules, chains) in
+    e ∙ sym (sum_up_to n ws)

@@ -1,5 +1,5 @@
 -- The invariant: whatever entries stand there, what is known of those passed. Assumes nothing.
-use Prim.Native.Nat.{◌-◌}
+use Rattle.std.proofs.Common.{◌≡◌}
 use Rattle.item.specs.Tree.{Entries}
 use Rattle.item.specs.declared.Found.{Found}
 use Rattle.entries.specs.Entries.{Holds}
@@ -12,8 +12,7 @@ use Rattle.step.proofs.fields_in.Given as goal
 abbrev fields_of : Found → Found → Found → Found → Found → Command → StepFields
 fields_of name id timeout continues expect command = record { name = name; id = id; timeout = timeout; continues = continues; expect = expect; command = command }
 
-abbrev pub invariant-loop-at : goal.invariant-loop-at
-invariant-loop-at l = FieldsInside l.s (fields_of l.name l.id l.timeout l.continues l.expect l.command) × ((es : Entries) → Holds l.s l.from l.to es → Left l.s l.to l.at es (fields_of l.name l.id l.timeout l.continues l.expect l.command))
-
-abbrev pub decreases-loop-at : goal.decreases-loop-at
-decreases-loop-at l = l.to - l.at
+abbrev pub invariant-loop-pair : goal.invariant-loop-pair
+invariant-loop-pair l =
+    (l.pair-iterator.bytes.now ≡ l.s) × (l.pair-iterator.to ≡ l.to) × FieldsInside l.s (fields_of l.name l.id l.timeout l.continues l.expect l.command)
+    × ((es : Entries) → Holds l.s l.from l.to es → Left l.s l.to l.pair-iterator.at es (fields_of l.name l.id l.timeout l.continues l.expect l.command))

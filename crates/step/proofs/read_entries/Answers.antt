@@ -21,7 +21,7 @@ returns-in_default-clause-step c = λ es h.
     step-34 _ _ es (subst (AgreesExpect (get (bytes "expect") es)) c.if-not-expect_fits.false (x.ensures _ a.expect)) (not-one _ (commands es) f.result.command c.in_default.not-One a.command _)
 
 pub expect_allowed-requires : goal.expect_allowed-requires
-expect_allowed-requires c = subst (CommandInside _) c.in-One.is c.fields_in-fields.ensures.fields_inside.command
+expect_allowed-requires c = subst (CommandInside _) c.in-One.is c.fields_in-fields.ensures.inside.command
 
 pub returns-then-not-expect_allowed-clause-step : goal.returns-then-not-expect_allowed-clause-step
 returns-then-not-expect_allowed-clause-step c = λ es h.
@@ -32,10 +32,10 @@ returns-then-not-expect_allowed-clause-step c = λ es h.
     let o = subst (AgreesCommand _ (commands es)) c.in-One.is a.command in
     step-35 _ _ es e o f.result.expect a.expect c.expect_allowed.result c.expect_allowed.ensures c.if-not-expect_allowed.true
 
-pub returns-clause-read_inside : goal.returns-clause-read_inside
-returns-clause-read_inside c =
+pub returns-clause-inside : goal.returns-clause-inside
+returns-clause-inside c =
     let f = c.fields_in-fields in
-    let n = f.ensures.fields_inside in
+    let n = f.ensures.inside in
     let i = subst (CommandInside _) c.in-One.is n.command in
     record { name = n.name; id = n.id; key = i.0; value = i.1; timeout = n.timeout; continue = n.continue; expect = n.expect }
 

@@ -1,25 +1,13 @@
 -- The reading, then what is written of it. Assumes nothing.
-use borrow.Author.Rules.{rules}
-use mathlib.Core.Path.{subst}
-use Rattle.step.specs.Contract.{AgreesStep, ReadInside}
+use Rattle.std.proofs.lemmas.Result.{err_from_is_err_and}
 use Rattle.step.proofs.step_at.Goals as goal
 
-pub put_step-requires : goal.put_step-requires
-put_step-requires c =
-    let i = subst (ReadInside _) c.in-Step.is c.read_step.ensures.read_inside in
-    (search rules, i.key, i.value, search rules, search rules)
+pub returns-in_err-places-clause-step : goal.returns-in_err-places-clause-step
+returns-in_err-places-clause-step c = λ y g i.
+    let e = err_from_is_err_and c.from_residual.result c.from_residual.ensures.1 in
+    rw (e.1, e.2) (c.in_err-places.ensures.step y g i)
 
-pub returns-in-Step-clause-part_near : goal.returns-in-Step-clause-part_near
-returns-in-Step-clause-part_near c =
-    let w = c.put_step.ensures in
-    w.near
-
-pub returns-in-Step-clause-step : goal.returns-in-Step-clause-step
-returns-in-Step-clause-step c =
-    let w = c.put_step.ensures in
-    λ y g st.
-    let r = subst (AgreesStep _ _) c.in-Step.is (c.read_step.ensures.step y g st) in
-    record { read = r.step; is = r.is; stored = w.step r.step r.stands }
-
-pub returns-in-Refused-clause-step : goal.returns-in-Refused-clause-step
-returns-in-Refused-clause-step c = λ y g st. subst (AgreesStep _ _) c.in-Refused.is (c.read_step.ensures.step y g st)
+pub returns-clause-step : goal.returns-clause-step
+returns-clause-step c = λ y g i.
+    let r = c.in_ok-places.ensures.step y g i in
+    record { read = r.step; is = r.is; writes = c.put_step.ensures.step r.step r.stands }

@@ -1,12 +1,12 @@
--- By the kind of the value, then its text. Assumes nothing.
+-- Only a string can be it. Assumes nothing.
 use Rattle.refusal.specs.Base.{bytes}
 use Rattle.meaning.specs.Meanings.{schema}
-use Rattle.top.proofs.Values.{schema-other, schema-string}
+use Rattle.top.proofs.Values.{other-schema}
 use Rattle.top.proofs.is_schema.Goals as goal
 
-pub returns-then-value-ne3 : goal.returns-then-value-ne3
-returns-then-value-ne3 c = λ o h. schema-other o (c.value_of-value.ensures.value o h) c.if-value-ne3.true
+pub returns-in_default : goal.returns-in_default
+returns-in_default c = other-schema c.args.scalar c.in_default.not-Str
 
 pub returns : goal.returns
 unfolding schema bytes
-returns c = λ o h. schema-string o (c.value_of-value.ensures.value o h) c.if-value-ne3.false c.same_bytes.ensures
+returns c = rw c.in-Str.is c.same_bytes.ensures

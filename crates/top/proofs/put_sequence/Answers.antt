@@ -1,6 +1,6 @@
--- The content, then the header before it. Assumes nothing.
-use Rattle.nodes.proofs.Storing.{stored-item}
+-- The content, and the header in front of it, are the item. Assumes nothing.
+use Rattle.nodes.proofs.Writing.{writes_item}
 use Rattle.top.proofs.put_sequence.Goals as goal
 
 pub returns : goal.returns
-returns c = stored-item 4 _ c.put-end.ensures c.close.ensures.0 c.close.ensures.1
+returns c = writes_item c.open-header.ensures c.put.ensures c.close.ensures

@@ -1,82 +1,47 @@
-use borrow.Author.Rules.{rules}
-use mathlib.Core.Path.{refl, sym, ap, subst, ◌∙◌}
-use native.Mathlib.Omega.{arith}
-use lib.ListN.{length}
-use Rattle.entries.proofs.Counting.{spanned}
-use Rattle.entries.proofs.Walking.{item-turn, no_item}
-use Rattle.nodes.specs.Contract.{RendersNear}
-use Rattle.top.proofs.Tags.{tags-start, tag-on, no-tag-on, tags-done}
+use Rattle.std.proofs.Common.{rules, arith}
+use Rattle.nodes.proofs.Items.{item_step, item_stop, item_turn, no_item_here}
+use Rattle.nodes.proofs.Writing.{goes_more}
+use Rattle.top.proofs.Tags.{tag-on, no-tag-on, tags-done}
+use Rattle.top.proofs.put_tags.Goals.{in-None, in-Some+in_default}
 use Rattle.top.proofs.put_tags.Goals as goal
 
-pub loop-i-init : goal.loop-i-init
-loop-i-init c = (search rules, search rules, search rules, search rules, refl, λ ys h. tags-start ys h)
+pub scalar_of-requires : goal.scalar_of-requires
+scalar_of-requires c =
+    let i = c.loop-item.invariant in
+    let t = item_step _ _ i.0 i.1 c.in-Some.ensures.steps c.in-Ok.is in
+    (t.spans.order, t.spans.fits)
 
-pub returns-in_default-clause-near : goal.returns-in_default-clause-near
-returns-in_default-clause-near c =
-    let v = c.loop-i.invariant in
-    (omega (arith, v.1), v.3, v.4)
-
-pub returns-in_default-clause-tags : goal.returns-in_default-clause-tags
-returns-in_default-clause-tags c =
-    let v = c.loop-i.invariant in
-    λ ys h. let k = v.5 ys h in no_item k.rest (search rules) c.loop-i-test.true k.holds (sym c.in_default.is ∙ c.item_at-item.ensures)
-
-pub render-requires : goal.render-requires
-render-requires c = let v = c.loop-i.invariant in (search rules, omega (arith, v.3), search rules)
-
-pub loop-i-smaller-in-Text : goal.loop-i-smaller-in-Text
-loop-i-smaller-in-Text c =
-    let i = spanned _ _ (sym c.in-At.is ∙ c.item_at-item.ensures) in
-    omega (arith, i.order, c.loop-i-test.true)
-
-pub loop-i-preserved-in-Text : goal.loop-i-preserved-in-Text
-loop-i-preserved-in-Text c =
-    let v = c.loop-i.invariant in
-    let e = sym c.in-At.is ∙ c.item_at-item.ensures in
-    let i = spanned _ _ e in
-    let l = c.loop-i-test.true in
-    let r = c.render in
-    let n = subst (RendersNear _ _ _) c.in-Text.is r.ensures.renders_near in (
-      omega (arith, v.0, i.order),
-      omega (arith, n.low, v.1),
-      omega (arith, n.high, v.2, v.0, i.order),
-      omega (arith, n.high, v.2, v.0, l),
-      n.kept ∙ v.4,
-      λ ys h. let k = v.5 ys h in tag-on k (item-turn k.rest (search rules) l k.holds e) c.in-Text.is r.ensures.text,
+pub loop-item-preserved-in-Some-scalar_of : goal.loop-item-preserved-in-Some-scalar_of
+loop-item-preserved-in-Some-scalar_of c =
+    let i = c.loop-item.invariant in
+    let t = item_step _ _ i.0 i.1 c.in-Some.ensures.steps c.in-Ok.is in (
+      t.bytes,
+      t.end,
+      goes_more i.2 c.scalar.ensures.goes,
+      λ ys h.
+          let k = i.3 ys h in
+          let e = item_turn k.rest (search rules) k.holds t in
+          rw t.next (tag-on k e (c.in-Some-scalar_of.ensures e.first.y e.first.ranged e.item_is) c.scalar.ensures),
     )
 
-pub loop-i-smaller : goal.loop-i-smaller
-loop-i-smaller c =
-    let i = spanned _ _ (sym c.in-At.is ∙ c.item_at-item.ensures) in
-    omega (arith, i.order, c.loop-i-test.true)
-
-pub loop-i-preserved : goal.loop-i-preserved
-loop-i-preserved c =
-    let v = c.loop-i.invariant in
-    let e = sym c.in-At.is ∙ c.item_at-item.ensures in
-    let i = spanned _ _ e in
-    let l = c.loop-i-test.true in
-    let r = c.render in
-    let n = subst (RendersNear _ _ _) c.in-NoScalar.is r.ensures.renders_near in (
-      omega (arith, v.0, i.order),
-      v.1,
-      omega (arith, v.2, v.0, i.order),
-      v.3,
-      ap length n ∙ v.4,
-      λ ys h. let k = v.5 ys h in no-tag-on k (item-turn k.rest (search rules) l k.holds e) c.in-NoScalar.is r.ensures.text,
+pub loop-item-preserved : goal.loop-item-preserved
+loop-item-preserved c =
+    let i = c.loop-item.invariant in
+    let t = item_step _ _ i.0 i.1 c.in-Some.ensures.steps c.in-Ok.is in (
+      t.bytes,
+      t.end,
+      i.2,
+      λ ys h.
+          let k = i.3 ys h in
+          let e = item_turn k.rest (search rules) k.holds t in
+          rw t.next (no-tag-on k e (c.in_default-scalar_of.ensures e.first.y e.first.ranged e.item_is)),
     )
-
-pub close-requires : goal.close-requires
-close-requires c = let v = c.loop-i.invariant in (v.1, search rules, search rules)
-
-pub returns-clause-near : goal.returns-clause-near
-returns-clause-near c =
-    let v = c.loop-i.invariant in
-    let l = c.close.ensures in
-    (omega (arith, v.1), v.3, l.1 ∙ v.4)
 
 pub returns-clause-tags : goal.returns-clause-tags
-returns-clause-tags c =
-    let v = c.loop-i.invariant in
-    let l = c.close.ensures in
-    λ ys h. tags-done (search rules) (v.5 ys h) l.0 l.1
+returns-clause-tags c = λ ys h.
+    let i = c.loop-item.invariant in
+    let k = i.3 ys h in
+    elim c.match-next.branch [
+      | in-None w ↦ tags-done (omega (arith, i.1, w.in-None.ensures.steps.0)) c.open-header.ensures k c.close.ensures
+      | in-Some+in_default w ↦ no_item_here k.rest (search rules) k.holds (item_stop _ _ i.0 i.1 w.in-Some.ensures.steps w.in_default.is)
+    ]

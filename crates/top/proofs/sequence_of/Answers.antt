@@ -1,22 +1,15 @@
 -- By the kind of the value. Assumes nothing.
 use Rattle.top.proofs.Values.{sequence-empty, sequence-there, sequence-other}
 use Rattle.top.proofs.sequence_of.Goals as goal
+use Rattle.top.proofs.sequence_of.Goals.{else-not-is_null-via-then-not-is_null+else-not-is_sequence, else-not-is_null-via-else-not-is_null}
 
-pub returns-then-value-eq0-clause-sequence_inside : goal.returns-then-value-eq0-clause-sequence_inside
-returns-then-value-eq0-clause-sequence_inside c = let v = c.value_of-value.ensures in
-    v.from_le_to
-
-pub returns-then-value-eq0-clause-items : goal.returns-then-value-eq0-clause-items
-returns-then-value-eq0-clause-items c = let v = c.value_of-value.ensures in
-    λ o h. sequence-empty o (v.value o h) c.if-value-eq0.true
-
-pub returns-then-value-eq4-clause-sequence_inside : goal.returns-then-value-eq4-clause-sequence_inside
-returns-then-value-eq4-clause-sequence_inside c = let v = c.value_of-value.ensures in
-    v.from_le_to
-
-pub returns-then-value-eq4-clause-items : goal.returns-then-value-eq4-clause-items
-returns-then-value-eq4-clause-items c = let v = c.value_of-value.ensures in
-    λ o h. sequence-there o (v.value o h) c.if-value-eq4.true
+pub returns-then-not-is_sequence-clause-items : goal.returns-then-not-is_sequence-clause-items
+returns-then-not-is_sequence-clause-items c = λ o h. sequence-other o (c.value_of-value.ensures.value o h) c.if-not-is_null.true c.if-not-is_sequence.true
 
 pub returns-clause-items : goal.returns-clause-items
-returns-clause-items c = λ o h. sequence-other o (c.value_of-value.ensures.value o h) c.if-value-eq0.false c.if-value-eq4.false
+returns-clause-items c = λ o h.
+    let i = c.value_of-value.ensures.value o h in
+    elim c.else-not-is_null.branch [
+      | else-not-is_null-via-then-not-is_null+else-not-is_sequence w ↦ sequence-there o i w.if-not-is_sequence.false
+      | else-not-is_null-via-else-not-is_null w ↦ sequence-empty o i w.if-not-is_null.false
+    ]

@@ -1,29 +1,19 @@
--- What was found, by the header at its place. Assumes nothing.
-use borrow.Author.Rules.{rules}
-use mathlib.Core.Path.{sym, subst, ◌∙◌}
-use Rattle.item.proofs.Headers.{an_item, spans}
-use Rattle.entries.specs.Entries.{Finds}
-use Rattle.entries.proofs.Standing.{value-head, valued}
-use Rattle.top.proofs.Values.{found-value, absent-value}
+-- What was found, by its item; else null. Assumes nothing.
+use Rattle.std.proofs.Common.{Some, None, Option as Maybe}
+use Rattle.std.specs.Option.{unwrap_or}
+use mathlib.Core.Option.{Option}
+use mathlib.Core.List.{List}
+use Prim.Native.Nat.{ℕ}
+use Rattle.item.specs.Tree.{Yaml}
+use Rattle.item.specs.declared.Item.{Item}
+use Rattle.nodes.specs.Contract.{FindsItem, or_null}
+use Rattle.top.specs.Contract.{IsValue}
+use Rattle.top.proofs.Values.{found_value, absent-value}
 use Rattle.top.proofs.value_of.Goals as goal
 
-pub returns-in_default-clause-value : goal.returns-in_default-clause-value
-returns-in_default-clause-value c = λ o h. absent-value _ o (subst (Finds _ o) c.in_default.is h)
-
-pub returns-in_default-head-clause-value : goal.returns-in_default-head-clause-value
-returns-in_default-head-clause-value c = λ o h.
-    let f = subst (Finds _ o) c.in-At.is h in
-    an_item _ (c.header_at-head.ensures ∙ value-head f.value (search rules) f.stands) c.in_default-head.not-Item
-
-pub returns-clause-from_le_to : goal.returns-clause-from_le_to
-returns-clause-from_le_to c =
-    let e = sym c.in-Item.is ∙ c.header_at-head.ensures in
-    let i = spans _ _ e in
-    (i.order, i.fits)
+read_as : (s : List ℕ) (o : Option Yaml) (r : Maybe Item) → FindsItem s o r → IsValue s (or_null o) (unwrap_or r (record { kind = 0; from = 0; to = 0 }))
+read_as s o (Some item) f = found_value f
+read_as s o None e = absent-value s o e
 
 pub returns-clause-value : goal.returns-clause-value
-returns-clause-value c =
-    let e = sym c.in-Item.is ∙ c.header_at-head.ensures in
-    λ o h.
-    let f = subst (Finds _ o) c.in-At.is h in
-    found-value f (valued e f.value (search rules) f.stands)
+returns-clause-value c = λ o h. rw c.unwrap_or.ensures (read_as c.args.s.now o c.item_found.result (c.item_found.ensures.item o h))

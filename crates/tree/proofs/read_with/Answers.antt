@@ -1,12 +1,13 @@
 -- By the order of the refusals: 1, 2, the lines, the value. Assumes nothing.
-use borrow.Author.Rules.{rules}
-use mathlib.Core.Path.{sym, ◌∙◌}
+use mathlib.Core.Path.{sym, ap, ◌∙◌, subst}
+use mathlib.Core.List.{List}
 use native.Mathlib.Omega.{arith}
-use Prim.Native.Nat.{◌≤◌}
 use lib.ListN.{length}
-use borrow.Author.Tests.{not-false}
-use Rattle.lines.proofs.Ends.{ready}
-use Rattle.tree.proofs.Reading.{tree-long, tree-bytes, tree-unlined, tree-lined, lines-read, lines-stopped, tree-read, tree-stopped, read-lined}
+use Rattle.std.proofs.lemmas.Result.{err_from_is_err_and}
+use Rattle.lines.specs.Lines.{Line}
+use Rattle.tree.specs.Tree.{tree_of}
+use Rattle.tree.specs.Contract.{WroteTree}
+use Rattle.tree.proofs.Reading.{tree-long, tree-bytes, tree-unlined, tree-lined, read-lined}
 use Rattle.tree.proofs.read_with.Goals as goal
 
 pub returns-then-is_long : goal.returns-then-is_long
@@ -17,45 +18,23 @@ returns-then-is_long c =
 pub returns-then-not-is_utf8 : goal.returns-then-not-is_utf8
 returns-then-not-is_utf8 c =
     let a = c.args in
-    let u = c.is_utf8 in
-    tree-bytes (length a.out.now) a.text.now (omega (arith, c.if-is_long.false)) (sym u.ensures ∙ c.if-not-is_utf8.true)
+    tree-bytes (length a.out.now) a.text.now (omega (arith, c.if-is_long.false)) (sym c.is_utf8.ensures ∙ c.if-not-is_utf8.true)
 
-pub tree_of-requires : goal.tree_of-requires
-tree_of-requires c =
+pub returns-in_err-count : goal.returns-in_err-count
+returns-in_err-count c =
     let a = c.args in
-    let r = c.read_lines in
-    let f = lines-read a.text.now _ r.result r.ensures c.in-Read.count c.in-Read.is in
-    (ready a.text.now _ c.in-Read.count (omega (arith, c.if-is_long.false)) (search rules) f, search rules)
+    let p = err_from_is_err_and c.from_residual.result c.from_residual.ensures.1 in
+    rw (p.1, p.2) (tree-unlined (length a.out.now) a.text.now (omega (arith, c.if-is_long.false)) (sym c.is_utf8.ensures ∙ c.if-not-is_utf8.false) _ c.in_err-count.ensures)
 
-pub returns-in-Refused : goal.returns-in-Refused
-returns-in-Refused c =
+pub returns-in_err-bytes : goal.returns-in_err-bytes
+returns-in_err-bytes c =
     let a = c.args in
-    let r = c.read_lines in
-    let u = c.is_utf8 in
-    tree-unlined (length a.out.now) a.text.now (omega (arith, c.if-is_long.false))
-    (sym u.ensures ∙ c.if-not-is_utf8.false) c.in-Refused.e (lines-stopped a.text.now _ r.result r.ensures c.in-Refused.e c.in-Refused.is)
+    let p = err_from_is_err_and c.from_residual-in_err-bytes.result c.from_residual-in_err-bytes.ensures.1 in
+    let f = c.in_ok-count.ensures in
+    rw (p.1, p.2) (tree-lined (length a.out.now) a.text.now (omega (arith, c.if-is_long.false)) (sym c.is_utf8.ensures ∙ c.if-not-is_utf8.false) _ f.lines c.requires ∙ ap (tree_of (length a.out.now)) (sym c.new-lines.ensures) ∙ c.in_err-bytes.ensures)
 
-pub returns-in-Refused-tree_of : goal.returns-in-Refused-tree_of
-returns-in-Refused-tree_of c =
+pub returns : goal.returns
+returns c =
     let a = c.args in
-    let pre = c.requires in
-    let r = c.read_lines in
-    let u = c.is_utf8 in
-    let t = c.tree_of in
-    let f = lines-read a.text.now _ r.result r.ensures c.in-Read.count c.in-Read.is in
-    tree-lined (length a.out.now) a.text.now (omega (arith, c.if-is_long.false))
-    (sym u.ensures ∙ c.if-not-is_utf8.false) _ f.lines pre ∙ tree-stopped _ a.out.now _ t.result t.ensures c.in-Refused-tree_of.e c.in-Refused-tree_of.is
-
-pub returns-in-Read-tree_of : goal.returns-in-Read-tree_of
-returns-in-Read-tree_of c =
-    let a = c.args in
-    let pre = c.requires in
-    let r = c.read_lines in
-    let u = c.is_utf8 in
-    let t = c.tree_of in
-    let f = lines-read a.text.now _ r.result r.ensures c.in-Read.count c.in-Read.is in
-    let small : length a.text.now ≤ 65535 = omega (arith, c.if-is_long.false) in
-    read-lined a.text.now _ a.out.now _ c.in-Read.count c.in-Read-tree_of.bytes small (search rules)
-    (sym u.ensures ∙ not-false u.result
-    c.if-not-is_utf8.false-raw) pre f
-    (tree-read _ a.out.now _ t.result t.ensures c.in-Read-tree_of.bytes c.in-Read-tree_of.is)
+    read-lined a.text.now _ a.out.now _ _ _ (omega (arith, c.if-is_long.false)) (sym c.is_utf8.ensures ∙ c.if-not-is_utf8.false) c.requires c.in_ok-count.ensures
+    (subst (λ (ls : List Line). WroteTree (tree_of (length a.out.now) ls) a.out.now c.tree_of.new.out c.in_ok-bytes.bytes) c.new-lines.ensures c.in_ok-bytes.ensures)

@@ -4,7 +4,7 @@ use mathlib.Core.List.{List}
 use Prim.Native.Nat.{ℕ, ◌+◌}
 use native.Mathlib.Omega.{arith}
 use lib.ListN.{length}
-use Rattle.utf8.proofs.Turns.{end-turn, end-end, ends-none, visible-last}
+use Rattle.utf8.proofs.Turns.{end_turn, end_end, ends_none, visible_last}
 use Rattle.utf8.proofs.trim_end.Goals as goal
 
 pub loop-end-preserved : goal.loop-end-preserved
@@ -12,26 +12,26 @@ loop-end-preserved c =
     let a = c.args in
     let l = c.loop-end in
     let w = c.white_before-n in
-    (search rules, search rules, l.invariant.2 ∙ end-turn a.s.now a.from l.end w.result (search rules) (search rules) w.ensures (search rules))
+    (search rules, search rules, l.invariant.2 ∙ end_turn a.s.now a.from l.end w.result (search rules) (search rules) w.ensures (search rules))
 
 pub returns-after-loop-end-clause-value : goal.returns-after-loop-end-clause-value
 returns-after-loop-end-clause-value c =
     let a = c.args in
     let l = c.loop-end in
-    let e = ends-none a.s.now a.from l.end (λ h. absurd (omega arith)) (λ h. absurd (omega arith)) (λ h. absurd (omega arith)) in
-    sym (ap (λ (t : List ℕ). a.from + length t) l.invariant.2 ∙ end-end a.s.now a.from l.end 0 (search rules) (search rules) e refl)
+    let e = ends_none a.s.now a.from l.end (λ h. absurd (omega arith)) (λ h. absurd (omega arith)) (λ h. absurd (omega arith)) in
+    sym (ap (λ (t : List ℕ). a.from + length t) l.invariant.2 ∙ end_end a.s.now a.from l.end 0 (search rules) (search rules) e refl)
 
 pub returns-then-visible-clause-value : goal.returns-then-visible-clause-value
 returns-then-visible-clause-value c =
     let a = c.args in
     let l = c.loop-end in
     let v = c.visible.ensures c.if-visible.true in
-    let e = visible-last a.s.now l.end (search rules) a.from (search rules) v.0 v.1 in
-    sym (ap (λ (t : List ℕ). a.from + length t) l.invariant.2 ∙ end-end a.s.now a.from l.end 0 (search rules) (search rules) e refl)
+    let e = visible_last a.s.now l.end (search rules) a.from (search rules) v.0 v.1 in
+    sym (ap (λ (t : List ℕ). a.from + length t) l.invariant.2 ∙ end_end a.s.now a.from l.end 0 (search rules) (search rules) e refl)
 
 pub returns-then-n-eq0-clause-value : goal.returns-then-n-eq0-clause-value
 returns-then-n-eq0-clause-value c =
     let a = c.args in
     let l = c.loop-end in
     let w = c.white_before-n in
-    sym (ap (λ (t : List ℕ). a.from + length t) l.invariant.2 ∙ end-end a.s.now a.from l.end w.result (search rules) (search rules) w.ensures c.if-n-eq0.true)
+    sym (ap (λ (t : List ℕ). a.from + length t) l.invariant.2 ∙ end_end a.s.now a.from l.end w.result (search rules) (search rules) w.ensures c.if-n-eq0.true)

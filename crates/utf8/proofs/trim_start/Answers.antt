@@ -1,6 +1,6 @@
 use borrow.Author.Rules.{rules}
 use mathlib.Core.Path.{refl, sym, ◌∙◌}
-use Rattle.utf8.proofs.Turns.{white-nil, start-turn, start-end, visible-first}
+use Rattle.utf8.proofs.Turns.{white_nil, start_turn, start_end, visible_first}
 use Rattle.utf8.proofs.trim_start.Goals as goal
 
 pub loop-at-preserved : goal.loop-at-preserved
@@ -8,26 +8,26 @@ loop-at-preserved c =
     let a = c.args in
     let l = c.loop-at in
     let w = c.white_at-n in
-    (search rules, search rules, l.invariant.2 ∙ start-turn a.s.now l.at a.to w.result w.ensures.value (search rules))
+    (search rules, search rules, l.invariant.2 ∙ start_turn a.s.now l.at a.to w.result w.ensures.value (search rules))
 
 pub returns-after-loop-at-clause-value : goal.returns-after-loop-at-clause-value
 returns-after-loop-at-clause-value c =
     let a = c.args in
     let l = c.loop-at in
-    let z = white-nil a.s.now l.at a.to (search rules) (search rules) in
-    sym (l.invariant.2 ∙ start-end a.s.now l.at a.to 0 (sym z) refl)
+    let z = white_nil a.s.now l.at a.to (search rules) (search rules) in
+    sym (l.invariant.2 ∙ start_end a.s.now l.at a.to 0 (sym z) refl)
 
 pub returns-then-visible-clause-value : goal.returns-then-visible-clause-value
 returns-then-visible-clause-value c =
     let a = c.args in
     let l = c.loop-at in
     let v = c.visible.ensures c.if-visible.true in
-    let z = visible-first a.s.now a.to (search rules) l.at (search rules) v.0 v.1 in
-    sym (l.invariant.2 ∙ start-end a.s.now l.at a.to 0 (sym z) refl)
+    let z = visible_first a.s.now a.to (search rules) l.at (search rules) v.0 v.1 in
+    sym (l.invariant.2 ∙ start_end a.s.now l.at a.to 0 (sym z) refl)
 
 pub returns-then-n-eq0-clause-value : goal.returns-then-n-eq0-clause-value
 returns-then-n-eq0-clause-value c =
     let a = c.args in
     let l = c.loop-at in
     let w = c.white_at-n in
-    sym (l.invariant.2 ∙ start-end a.s.now l.at a.to w.result w.ensures.value c.if-n-eq0.true)
+    sym (l.invariant.2 ∙ start_end a.s.now l.at a.to w.result w.ensures.value c.if-n-eq0.true)

@@ -1,10 +1,11 @@
 -- Each return is a law of `Contents`. Assumes nothing.
-use mathlib.Core.Path.{sym}
+use Rattle.std.proofs.Common.{sym, ◌∙◌}
+use borrow.Author.Tests.{ne_eqb}
 use Rattle.value.proofs.Contents.{flag-size, flag-byte}
 use Rattle.value.proofs.flag.Goals as goal
 
-pub returns-then-content-ne1 : goal.returns-then-content-ne1
-returns-then-content-ne1 c = sym (flag-size _ (λ e. c.if-content-ne1.true e))
+pub returns-then-content-eq1 : goal.returns-then-content-eq1
+returns-then-content-eq1 c = sym (flag-byte _ c.if-content-eq1.true)
 
-pub returns : goal.returns
-returns c = sym (flag-byte _ c.if-content-ne1.false)
+pub returns-else-content-eq1 : goal.returns-else-content-eq1
+returns-else-content-eq1 c = ne_eqb _ 1 c.if-content-eq1.false ∙ sym (flag-size _ c.if-content-eq1.false)

@@ -1,125 +1,100 @@
-use borrow.Author.Rules.{rules}
-use native.Mathlib.Omega.{arith}
-use mathlib.Core.Path.{◌≡◌, sym, ap, ◌∙◌, subst}
-use Prim.Native.Nat.{ℕ, ◌-◌, ◌/◌, ◌^◌}
-use mathlib.Core.List.{List}
-use mathlib.Core.Bool.{Bool, true, false≢true}
-use lib.Bits.{bit_and}
-use lib.ListN.{take, drop}
+use Rattle.std.proofs.Common.{rules, arith, ◌≡◌, ℕ, ◌-◌, ◌/◌, ◌^◌, List, Bool, true, length, take, drop, sym, ap, ◌∙◌, subst, bit_and}
+use mathlib.Core.Bool.{false≢true}
 use Rattle.item.specs.Tree.{Entries, has_key}
 use Rattle.item.specs.Encode.{encode}
-use Rattle.entries.specs.Entries.{Lies, Places}
+use Rattle.entries.specs.Entries.{Lies}
 use Rattle.entries.specs.Contract.{hash_of, Has, Marked, of_class}
+use Rattle.entries.specs.declared.Pair.{Pair}
 use Rattle.entries.proofs.Standing.{stands-part}
-use Rattle.entries.proofs.Walking.{places_of, Turn, turn, no-entry}
+use Rattle.entries.proofs.Walking.{Turn, turn, no-entry, step, stop}
 use Rattle.entries.proofs.Twice.{Passed, passed_none, passed-all, passed-again, passed_on, of_class_lem, class_of}
 use Rattle.entries.proofs.filter.class_repeats.Goals as goal
-use Rattle.entries.proofs.filter.class_repeats.Goals.{In-At}
+use Rattle.entries.proofs.filter.class_repeats.Goals.{else-is_of_class-via-then-is_of_class+else-mark, else-is_of_class-via-else-is_of_class}
 
--- ---- an entry
+module _ {s : List ℕ} {from to at : ℕ} {seen : List ℕ} {es : Entries} {p : Pair} (class last : ℕ) (w : Passed s from to (of_class class last) es at seen) (t : Turn s at to w.rest p) where
+  module _ {r : ℕ} (e : r ≡ hash_of (take (p.end - p.start) (drop p.start s))) where
+    hashed : r ≡ hash_of t.entry.k
+    hashed = e ∙ ap hash_of t.key_is
 
-module _ (c : In-At) where
-  abbrev s : List ℕ
-  s = c.args.s.now
+    in_class : bit_and (r / 2 ^ 28) last ≡ class → of_class class last t.entry.k ≡ true
+    in_class i = class_of class last t.entry.k (ap (λ (x : ℕ). bit_and (x / 2 ^ 28) last) (sym hashed) ∙ i)
 
-  abbrev from : ℕ
-  from = c.args.from
+    -- the bits were put in
+    on : {new : List ℕ} {had : Bool} → Marked seen new r had → (of_class class last t.entry.k ≡ true → has_key t.entry.k w.front ≡ true → ⊥)
+        → Passed s from to (of_class class last) es p.next new
+    on {new} m n = passed_on w t new n (λ _. subst (Has new) hashed m.here) m.kept
 
-  abbrev to : ℕ
-  to = c.args.to
+    new-bits : of_class class last t.entry.k ≡ true → has_key t.entry.k w.front ≡ true → Has seen r
+    new-bits i f = subst (Has seen) (sym hashed) (w.kept t.entry.k i f)
 
-  abbrev class : ℕ
-  class = c.args.class
+    other : (bit_and (r / 2 ^ 28) last ≡ class → ⊥) → Passed s from to (of_class class last) es p.next seen
+    other n =
+        let no : of_class class last t.entry.k ≡ true → ⊥ = λ i. n (ap (λ (x : ℕ). bit_and (x / 2 ^ 28) last) hashed ∙ of_class_lem class last t.entry.k i) in
+        passed_on w t seen (λ i _. no i) (λ i. absurd (no i)) (λ g i. i)
 
-  abbrev last : ℕ
-  last = c.args.last
+  -- the exact search
+  sought : {b : Bool} (before : ℕ) → before ≡ at → ((fs : Entries) → take (before - from) (drop from s) ≡ encode fs → b ≡ has_key (take (p.end - p.start) (drop p.start s)) fs) → b ≡ has_key t.entry.k w.front
+  sought before q e = e w.front (stands-part w.before.stands (before - from) (omega (arith, w.before.ends, q))) ∙ ap (λ (k : List ℕ). has_key k w.front) t.key_is
 
-  abbrev at : ℕ
-  at = c.loop-at.at
+pub loop-pair-init : goal.loop-pair-init
+loop-pair-init c =
+    let e : c.into_iter-pair-iterator.result.at ≡ c.args.from = search rules in
+    (search rules, search rules, omega (arith, e), search rules, λ es h. subst (λ (n : ℕ). Passed c.args.s.now c.args.from c.args.to (of_class c.args.class c.args.last) es n c.fill.new.self) (sym e) (passed_none es h))
 
-  abbrev seen : List ℕ
-  seen = c.loop-at.seen
+pub returns-in_default-clause-told : goal.returns-in_default-clause-told
+returns-in_default-clause-told c = λ es h.
+    let i = c.loop-pair.invariant in
+    let t = stop _ _ i.0 i.1 c.in-Some.ensures.steps c.in_default.is in
+    let w = i.4 es h in
+    no-entry w.rest (search rules) t.before t.is w.behind
 
-  abbrev start : ℕ
-  start = c.in-At.start
+pub returns-then-has_key-clause-told : goal.returns-then-has_key-clause-told
+returns-then-has_key-clause-told c = λ es h.
+    let i = c.loop-pair.invariant in
+    let t = step _ _ i.0 i.1 c.in-Some.ensures.steps c.in-Ok.is in
+    let w = i.4 es h in
+    let e = turn w.rest (search rules) t.before t.is w.behind in
+    sym (passed-again w e (in_class c.args.class c.args.last w e c.hash-h.ensures c.if-is_of_class.true) (sym (sought c.args.class c.args.last w e (c.in-Ok.pair.start - 6) (omega (arith, t.places.first)) c.has_key.ensures) ∙ c.if-has_key.true))
 
-  abbrev stop : ℕ
-  stop = c.in-At.end
-
-  abbrev kind : ℕ
-  kind = c.in-At.kind
-
-  abbrev next : ℕ
-  next = c.in-At.next
-
-  here : Places s at start stop next
-  here = places_of c.in-At.is c.pair_at-pair.ensures.pair_places
-
-  module _ (es : Entries) (h : Lies s from to es) where
-    abbrev passed : Passed s from to (of_class class last) es at seen
-    passed = c.loop-at.invariant.2 es h
-
-    turned : Turn s at to passed.rest start stop kind next
-    turned = turn passed.rest (search rules) (search rules) c.pair_at-pair.ensures.entry c.in-At.is passed.behind
-
-    abbrev key : List ℕ
-    key = turned.entry.k
-
--- ---- its key's hash, and its bits
-
-module _ (c : In-At) (r : ℕ) (e : r ≡ hash_of (take (stop c - start c) (drop (start c) (s c)))) (es : Entries) (h : Lies (s c) (from c) (to c) es) where
-  hashed : r ≡ hash_of (key c es h)
-  hashed = e ∙ ap hash_of (turned c es h).key_is
-
-  -- the bits were put in
-  on : {new : List ℕ} {had : Bool} → Marked (seen c) new r had → (of_class (class c) (last c) (key c es h) ≡ true → has_key (key c es h) (passed c es h).front ≡ true → ⊥)
-      → Passed (s c) (from c) (to c) (of_class (class c) (last c)) es (next c) new
-  on {new} m n = passed_on (passed c es h) (turned c es h) new n (λ _. subst (Has new) hashed m.here) m.kept
-
--- the exact search
-module _ (c : In-At) (es : Entries) (h : Lies (s c) (from c) (to c) es) where
-  sought : {b : Bool} → ((fs : Entries) → take (at c - from c) (drop (from c) (s c)) ≡ encode fs → b ≡ has_key (take (stop c - start c) (drop (start c) (s c))) fs)
-      → b ≡ has_key (key c es h) (passed c es h).front
-  sought e = e (passed c es h).front (stands-part (passed c es h).before.stands (at c - from c) (omega (arith, (passed c es h).before.ends))) ∙ ap (λ (k : List ℕ). has_key k (passed c es h).front) (turned c es h).key_is
-
-pub loop-at-init : goal.loop-at-init
-loop-at-init c = (omega arith, c.clear.ensures, λ es h. passed_none es h)
-
-pub returns-in_default-clause-filters : goal.returns-in_default-clause-filters
-returns-in_default-clause-filters c = λ es h. let w = c.loop-at.invariant.2 es h in no-entry w.rest (search rules) (search rules) c.pair_at-pair.ensures.entry c.in_default.is w.behind
-
-pub returns-then-has_key-clause-filters : goal.returns-then-has_key-clause-filters
-returns-then-has_key-clause-filters c =
-    let k = (goal.at.returns-then-has_key-clause-filters c).In-At in
-    λ es h. passed-again (passed k es h) (turned k es h)
-    (class_of (class k) (last k) (key k es h) (ap (λ (x : ℕ). bit_and (x / 2 ^ 28) (last k)) (sym (hashed k c.hash-h.result c.hash-h.ensures es h)) ∙ c.if-h-last.true))
-    (sym (sought k es h c.has_key.ensures) ∙ c.if-has_key.true)
-
-pub loop-at-preserved-else-spare-eq0 : goal.loop-at-preserved-else-spare-eq0
-loop-at-preserved-else-spare-eq0 c =
-    let k = (goal.at.loop-at-preserved-else-spare-eq0 c).In-At in (
-      omega (arith, (here k).first, (here k).key, (here k).value),
-      c.mark.ensures.size ∙ c.loop-at.invariant.1,
-      λ es h. on k c.hash-h.result c.hash-h.ensures es h c.mark.ensures (λ _ f. false≢true (sym c.if-has_key.false ∙ sought k es h c.has_key.ensures ∙ f)),
+pub loop-pair-preserved-then-mark : goal.loop-pair-preserved-then-mark
+loop-pair-preserved-then-mark c =
+    let i = c.loop-pair.invariant in
+    let t = step _ _ i.0 i.1 c.in-Some.ensures.steps c.in-Ok.is in (
+      t.bytes,
+      t.end,
+      omega (arith, i.2, t.next, t.places.first, t.places.key, t.places.value),
+      c.mark.ensures.size ∙ i.3,
+      λ es h.
+          let w = i.4 es h in
+          let e = turn w.rest (search rules) t.before t.is w.behind in
+          subst (λ (n : ℕ). Passed c.args.s.now c.args.from c.args.to (of_class c.args.class c.args.last) es n c.mark.new.seen) (sym t.next)
+          (on c.args.class c.args.last w e c.hash-h.ensures c.mark.ensures (λ _ f. false≢true (sym c.if-has_key.false ∙ sought c.args.class c.args.last w e (c.in-Ok.pair.start - 6) (omega (arith, t.places.first)) c.has_key.ensures ∙ f))),
     )
 
-pub loop-at-preserved-else-mark : goal.loop-at-preserved-else-mark
-loop-at-preserved-else-mark c =
-    let k = (goal.at.loop-at-preserved-else-mark c).In-At in (
-      omega (arith, (here k).first, (here k).key, (here k).value),
-      c.mark.ensures.size ∙ c.loop-at.invariant.1,
-      λ es h. on k c.hash-h.result c.hash-h.ensures es h c.mark.ensures (λ e f. c.mark.ensures.told (subst (Has (seen k)) (sym (hashed k c.hash-h.result c.hash-h.ensures es h)) ((passed k es h).kept (key k es h) e f)) c.if-mark.false),
-    )
+pub loop-pair-preserved : goal.loop-pair-preserved
+loop-pair-preserved c =
+    let i = c.loop-pair.invariant in
+    let a = c.args in
+    let p = c.in-Ok.pair in
+    let seen = c.else-is_of_class.seen in
+    let t = step _ _ i.0 i.1 c.in-Some.ensures.steps c.in-Ok.is in
+    let kept : (length seen ≡ 2048) × ((es : Entries) → Lies a.s.now a.from a.to es → Passed a.s.now a.from a.to (of_class a.class a.last) es p.next seen) = elim c.else-is_of_class.branch [
+      | else-is_of_class-via-then-is_of_class+else-mark b ↦ (
+        ap length b.seen-is ∙ b.mark.ensures.size ∙ i.3,
+        λ es h.
+            let w = i.4 es h in
+            let e = turn w.rest (search rules) t.before t.is w.behind in
+            subst (λ (x : List ℕ). Passed a.s.now a.from a.to (of_class a.class a.last) es p.next x) (sym b.seen-is) (on c.args.class c.args.last w e c.hash-h.ensures b.mark.ensures (λ q f. b.mark.ensures.told (new-bits c.args.class c.args.last w e c.hash-h.ensures q f) b.if-mark.false)),
+      )
+      | else-is_of_class-via-else-is_of_class b ↦ (
+        ap length b.seen-is ∙ i.3,
+        λ es h.
+            let w = i.4 es h in
+            let e = turn w.rest (search rules) t.before t.is w.behind in
+            subst (λ (x : List ℕ). Passed a.s.now a.from a.to (of_class a.class a.last) es p.next x) (sym b.seen-is) (other c.args.class c.args.last w e c.hash-h.ensures b.if-is_of_class.false),
+      )
+    ] in
+    (t.bytes, t.end, omega (arith, i.2, t.next, t.places.first, t.places.key, t.places.value), kept.0, λ es h. subst (λ (n : ℕ). Passed a.s.now a.from a.to (of_class a.class a.last) es n seen) (sym t.next) (kept.1 es h))
 
-pub loop-at-preserved : goal.loop-at-preserved
-loop-at-preserved c =
-    let k = (goal.at.loop-at-preserved c).In-At in (
-      omega (arith, (here k).first, (here k).key, (here k).value),
-      search rules,
-      λ es h. let n : of_class (class k) (last k) (key k es h) ≡ true → ⊥ = λ e. c.if-h-last.false (ap (λ (x : ℕ). bit_and (x / 2 ^ 28) (last k)) (hashed k c.hash-h.result c.hash-h.ensures es h) ∙ of_class_lem (class k) (last k) (key k es h) e) in
-          passed_on (passed k es h) (turned k es h) (seen k) (λ e _. n e) (λ e. absurd (n e)) (λ g i. i),
-    )
-
-pub returns-clause-filters : goal.returns-clause-filters
-returns-clause-filters c = let l = c.loop-at.invariant in
-    λ es h. passed-all (l.2 es h) (search rules)
+pub returns-clause-told : goal.returns-clause-told
+returns-clause-told c = λ es h. sym (passed-all (c.loop-pair.invariant.4 es h) (search rules))

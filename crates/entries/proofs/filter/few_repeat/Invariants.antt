@@ -1,12 +1,11 @@
 -- The invariant: those that are left have a key twice if all of them have one twice. Assumes nothing.
-use Prim.Native.Nat.{◌-◌}
+use Rattle.std.proofs.Common.{◌≡◌}
 use Rattle.item.specs.Tree.{Entries}
 use Rattle.entries.specs.Entries.{Lies}
 use Rattle.entries.specs.Contract.{LeftOver}
 use Rattle.entries.proofs.filter.few_repeat.Given as goal
 
-abbrev pub invariant-loop-at : goal.invariant-loop-at
-invariant-loop-at l = (es : Entries) → Lies l.s l.from l.to es → LeftOver l.s l.to l.at es
-
-abbrev pub decreases-loop-at : goal.decreases-loop-at
-decreases-loop-at l = l.to - l.at
+abbrev pub invariant-loop-pair : goal.invariant-loop-pair
+invariant-loop-pair l =
+    (l.pair-iterator.bytes.now ≡ l.s) × (l.pair-iterator.to ≡ l.to)
+    × ((es : Entries) → Lies l.s l.from l.to es → LeftOver l.s l.to l.pair-iterator.at es)

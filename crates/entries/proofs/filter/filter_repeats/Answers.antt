@@ -1,13 +1,11 @@
-use borrow.Author.Rules.{rules}
-use mathlib.Core.Path.{subst}
-use Rattle.entries.specs.Contract.{Filters}
-use Rattle.entries.proofs.Twice.{twice-whole, no-class}
+use Rattle.std.proofs.Common.{sym, ◌∙◌, arith}
+use Rattle.entries.proofs.Twice.{twice-whole, no-class, class-done}
 use Rattle.entries.proofs.filter.filter_repeats.Goals as goal
 
-pub returns-in-Twice-clause-filters : goal.returns-in-Twice-clause-filters
-returns-in-Twice-clause-filters c = let r = c.class_repeats.ensures in
-    λ es h. twice-whole _ es (subst (Filters _) c.in-Twice.is (r.filters es h))
+pub returns-then-branch : goal.returns-then-branch
+returns-then-branch c = λ es h. sym (twice-whole _ es (sym (c.in_ok-class_repeats.ensures.told es h) ∙ c.if-branch.true))
 
-pub returns-clause-filters : goal.returns-clause-filters
-returns-clause-filters c = let l = c.loop-class.invariant in
-    λ es h. no-class _ es (λ n i. l.2 es h n (search rules))
+pub returns-else-branch : goal.returns-else-branch
+returns-else-branch c =
+    let l = c.loop-class in
+    λ es h. sym (no-class _ es (λ n i. class-done l.class _ es (l.invariant.1 es h) (sym (c.in_ok-class_repeats.ensures.told es h) ∙ c.if-branch.false) n (omega (arith, i))))

@@ -1,19 +1,15 @@
-use borrow.Author.Rules.{rules}
-use Rattle.entries.specs.Contract.{as_long}
-use Rattle.entries.proofs.Order.{drop-less, fronts-on}
+-- The lengths decide, or the bytes. Assumes nothing.
+use Rattle.std.proofs.Common.{length, sym, ap, ◌∙◌}
+use Rattle.std.specs.Ordering.{nat_cmp, is_ne}
+use Rattle.entries.proofs.Runs.{then-first, then-second}
 use Rattle.entries.proofs.sorted.compare.Goals as goal
 
-pub returns-then-a-i : goal.returns-then-a-i
-returns-then-a-i c =
-    let l = c.loop-i in
-    as_long (search rules) (l.invariant.1.below (drop-less _ _ l.i (search rules) (search rules) (search rules)))
+pub returns-then-is_ne : goal.returns-then-is_ne
+returns-then-is_ne c =
+    let n = nat_cmp (length c.args.a.now) (length c.args.b.now) in
+    c.cmp-order.ensures ∙ then-first n _ (ap is_ne (sym c.cmp-order.ensures) ∙ sym c.is_ne.ensures ∙ c.if-is_ne.true)
 
-pub returns-then-a-i-2 : goal.returns-then-a-i-2
-returns-then-a-i-2 c =
-    let l = c.loop-i in
-    as_long (search rules) (l.invariant.1.above (drop-less _ _ l.i (search rules) (search rules) (search rules)))
-
-pub loop-i-preserved : goal.loop-i-preserved
-loop-i-preserved c =
-    let l = c.loop-i in
-    (search rules, fronts-on _ _ l.i l.invariant.1 (search rules) (search rules) (search rules))
+pub returns : goal.returns
+returns c =
+    let n = nat_cmp (length c.args.a.now) (length c.args.b.now) in
+    c.compare_bytes.ensures ∙ then-second n _ (ap is_ne (sym c.cmp-order.ensures) ∙ sym c.is_ne.ensures ∙ c.if-is_ne.false)

@@ -1,7 +1,5 @@
 -- The invariant: those that are left have a key twice if all of them have one twice. Assumes nothing.
-use mathlib.Core.Path.{◌≡◌}
-use Prim.Native.Nat.{◌-◌, ◌^◌}
-use lib.ListN.{length}
+use Rattle.std.proofs.Common.{◌≡◌, ◌-◌, ◌^◌, length}
 use Rattle.item.specs.Tree.{Entries}
 use Rattle.entries.specs.Entries.{Lies}
 use Rattle.entries.specs.Contract.{LeftOver}

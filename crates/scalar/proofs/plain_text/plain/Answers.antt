@@ -1,18 +1,36 @@
 -- Plain text by its places, then trimmed. Assumes nothing.
 use mathlib.Core.Path.{sym, ap, ◌∙◌}
+use Rattle.std.proofs.lemmas.Result.{err_from_is_err_and}
 use Prim.Native.Nat.{ℕ}
 use mathlib.Core.List.{List}
-use lib.ListN.{length, drop}
+use lib.ListN.{drop}
+use Rattle.writer.specs.Writing.{cap_of, Appends, Lacks}
 use Rattle.scalar.specs.Scalars.{scalar_of}
+use Rattle.scalar.specs.Contract.{is_in_flow, is_key, written}
 use Rattle.scalar.specs.Read.{scalar}
-use Rattle.scalar.proofs.Laws.{plain-part}
+use Rattle.scalar.proofs.Laws.{plain-part, flat_scalar, wrote_scalar, refused_scalar}
 use Rattle.scalar.proofs.plain_text.plain.Goals as goal
 
-pub returns : goal.returns
-returns c =
+pub returns-in_err-put_scalar : goal.returns-in_err-put_scalar
+returns-in_err-put_scalar c = λ line.
     let a = c.args in
-    let s = a.s.now in
-    let e = c.plain_end-end in
-    let p = plain-part (length a.out.now) a.line a.in_flow a.role a.at s a.i e.result e.ensures.0
-    ∙ ap (λ (t : List ℕ). scalar (length a.out.now) a.line a.role a.at (scalar_of t) (drop e.result s)) (sym c.trimmed.ensures.result_value) in
-    rw p (c.put_scalar.ensures s a.line e.ensures.1)
+    let w = a.writer.now in
+    let e = c.plain_end-next in
+    let t = c.trimmed-text.result.now in
+    let p = err_from_is_err_and c.from_residual.result c.from_residual.ensures.1 in
+    let q = plain-part (cap_of w) line (is_in_flow a.stops) a.role w.used a.s.now a.i e.result e.ensures.here
+    ∙ ap (λ (u : List ℕ). scalar (cap_of w) line a.role w.used (scalar_of u) (drop e.result a.s.now)) (sym c.trimmed-text.ensures.result_value) in
+    let k : Lacks w c.put_scalar.new.writer (written a.role (scalar_of t)) c.in_err-put_scalar.field-0.0
+    = rw (← c.said_by-said.ensures) c.in_err-put_scalar.ensures in
+    rw (p.1, p.2, q) (refused_scalar a.role (scalar_of t) (flat_scalar t) a.s.now w _ e.result line e.ensures.in_range _ k)
+
+pub returns : goal.returns
+returns c = λ line.
+    let a = c.args in
+    let w = a.writer.now in
+    let e = c.plain_end-next in
+    let t = c.trimmed-text.result.now in
+    let q = plain-part (cap_of w) line (is_in_flow a.stops) a.role w.used a.s.now a.i e.result e.ensures.here
+    ∙ ap (λ (u : List ℕ). scalar (cap_of w) line a.role w.used (scalar_of u) (drop e.result a.s.now)) (sym c.trimmed-text.ensures.result_value) in
+    let k : Appends w c.put_scalar.new.writer (written a.role (scalar_of t)) = rw (← c.said_by-said.ensures) c.in_ok-put_scalar.ensures in
+    rw q (wrote_scalar a.role (scalar_of t) (flat_scalar t) a.s.now w _ e.result line e.ensures.in_range _ (c.is_key.ensures t ∙ ap is_key c.said_by-said.ensures) k)

@@ -1,5 +1,4 @@
 -- By the quote. Assumes nothing.
-
 use Rattle.scalar.proofs.quoted_text.piece_at.Goals as goal
 
 pub returns-in-Single : goal.returns-in-Single

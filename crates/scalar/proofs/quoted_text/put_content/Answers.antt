@@ -1,14 +1,10 @@
 -- Where each byte takes one place, the string is the part before its closing quote. Assumes nothing.
-use borrow.Author.Rules.{rules}
 use native.Mathlib.Omega.{arith}
-use mathlib.Core.Path.{sym, ap, ◌∙◌}
 use Prim.Native.Nat.{◌+◌}
-use lib.Seq.{sets}
 use Rattle.scalar.proofs.Copied.{copied}
 use Rattle.scalar.proofs.quoted_text.put_content.Goals as goal
 
-pub returns-then-next-end : goal.returns-then-next-end
-returns-then-next-end c = λ cap t q h.
+pub returns-then-span-end : goal.returns-then-span-end
+returns-then-span-end c = λ cap t q h.
     let a = c.args in
-    c.copy.ensures
-    ∙ ap (sets a.out.now a.at) (sym (copied cap a.line a.quote a.s.now t a.i a.next (a.i + a.size) (omega arith) (search rules) (search rules) q))
+    rw (copied cap a.line a.quote a.s.now t a.i a.span.next (a.i + a.span.size) (omega arith) c.if-span-end.true (omega (arith, c.requires.in_range)) q) c.put.ensures

@@ -1,58 +1,47 @@
 -- A header, and the string behind it, are the item. Assumes nothing.
+use mathlib.Core.Path.{refl, sym, ap, ◌∙◌}
 use native.Mathlib.Omega.{arith}
-use mathlib.Core.Path.{refl, sym, ap, ◌∙◌, subst}
-use Prim.Native.Nat.{ℕ, ◌+◌}
-use mathlib.Core.List.{List}
-use mathlib.Core.Bool.{true}
-use lib.ListN.{length}
-use lib.Seq.{sets}
-use Rattle.refusal.specs.declared.Refusal.TheVariants.{WorkTooShort}
-use Rattle.item.specs.Encode.{head}
+use Rattle.std.proofs.lemmas.Result.{err_from_is_err_and}
 use Rattle.item.proofs.Size.{item-length}
-use Rattle.item.proofs.Runs.{sets-item}
-use Rattle.scalar.specs.declared.Parsed.TheVariants.{Done, Refused}
+use Rattle.writer.specs.Writing.{cap_of}
+use Rattle.writer.proofs.Laws.{appends_item, header_used, len_appended, keeps_same}
+use Rattle.scalar.specs.Contract.{quoted_of}
 use Rattle.scalar.specs.Read.{string}
-use Rattle.scalar.specs.Code.{quoted_of, Spans}
-use Rattle.scalar.proofs.QuoteLaws.{string-refused, quoted-agree}
-use borrow.Author.Rules.{rules}
+use Rattle.scalar.proofs.QuoteLaws.{string-refused, wrote_string, refused_string}
 use Rattle.scalar.proofs.quoted_text.quoted.Goals as goal
 
-pub overflow_add-size : goal.overflow_add-size
-overflow_add-size c = let a = c.args in let k = subst (Spans (quoted_of a.quote 0 a.line) a.s.now a.i) c.in-Ends.is (c.span_of.ensures 0) in omega (arith, k.within)
-
-pub returns-then-out-at : goal.returns-then-out-at
-returns-then-out-at c =
+pub returns-in_err-span : goal.returns-in_err-span
+returns-in_err-span c =
     let a = c.args in
-    let cap = length a.out.now in
-    let k = subst (Spans (quoted_of a.quote cap a.line) a.s.now a.i) c.in-Ends.is (c.span_of.ensures cap) in
-    λ role. quoted-agree role (quoted_of a.quote cap a.line) a.s.now a.out.now a.out.now a.at a.line a.i _ _ k (Refused WorkTooShort) (refl, omega (arith, k.long, item-length 3 k.content), refl)
+    let w = a.writer.now in
+    λ role. let p = err_from_is_err_and c.from_residual.result c.from_residual.ensures.1 in
+    rw (p.1, p.2) (record {
+      is = ap (string (cap_of w) a.line role w.used) (c.in_err-span.ensures (cap_of w)) ∙ string-refused (cap_of w) a.line role w.used _;
+      keeps = keeps_same refl;
+    })
 
-pub put_content-requires : goal.put_content-requires
-put_content-requires c =
-    let a = c.args in
-    let k = subst (Spans (quoted_of a.quote 0 a.line) a.s.now a.i)
-    c.in-Ends.is (c.span_of.ensures 0) in
-    (k.within, k.forward, search rules)
+pub overflow_add-span : goal.overflow_add-span
+overflow_add-span c = let k = c.in_ok-span.ensures 0 in omega (arith, k.within)
 
-pub returns-else-out-at : goal.returns-else-out-at
-returns-else-out-at c =
+pub returns-in_err-reserve : goal.returns-in_err-reserve
+returns-in_err-reserve c =
     let a = c.args in
-    let cap = length a.out.now in
-    let k = subst (Spans (quoted_of a.quote cap a.line) a.s.now a.i)
-    c.in-Ends.is
-    (c.span_of.ensures cap) in
-    let e = c.put_content.ensures cap k.content k.is k.long
-    ∙ ap (λ (l : List ℕ). sets l (a.at + 6) k.content) (c.put_header.ensures ∙ ap (λ (n : ℕ). sets a.out.now a.at (head 3 n)) (sym k.long))
-    ∙ sets-item a.out.now a.at 3 k.content in
-    λ role. quoted-agree role (quoted_of a.quote cap a.line) a.s.now a.out.now c.put_content.new.out a.at a.line a.i _ _ k (Done _ _ true)
-    (refl, refl, record { is = e; grows = omega (arith, k.long, item-length 3 k.content); fits = omega arith })
+    let w = a.writer.now in
+    let k = c.in_ok-span.ensures (cap_of w) in
+    λ role. let p = err_from_is_err_and c.from_residual-in_err-reserve.result c.from_residual-in_err-reserve.ensures.1 in
+    rw (p.1, p.2) (refused_string role (quoted_of a.quote (cap_of w) a.line) a.s.now w w a.line a.i _ _ k _
+    (record { is = c.in_err-reserve.ensures.1; short = omega (arith, c.in_err-reserve.ensures.0, k.long, item-length 3 k.content); same = refl }))
 
-pub returns-in-Refused : goal.returns-in-Refused
-returns-in-Refused c =
+pub put_content-requires-clause-in_range : goal.put_content-requires-clause-in_range
+put_content-requires-clause-in_range c = let k = c.in_ok-span.ensures 0 in (k.within, k.forward)
+
+pub put_content-requires-clause-room : goal.put_content-requires-clause-room
+put_content-requires-clause-room c = omega (arith, c.in_ok-reserve.ensures, header_used _ _ c.header.ensures, len_appended c.header.ensures)
+
+pub returns : goal.returns
+returns c =
     let a = c.args in
-    let cap = length a.out.now in
-    let k = subst (Spans (quoted_of a.quote cap a.line) a.s.now a.i) c.in-Refused.is (c.span_of.ensures cap) in
-    λ role. record {
-      is = ap (string cap a.line role a.at) k ∙ string-refused cap a.line role a.at c.in-Refused.e;
-      kept = refl;
-    }
+    let w = a.writer.now in
+    let k = c.in_ok-span.ensures (cap_of w) in
+    λ role. wrote_string role (quoted_of a.quote (cap_of w) a.line) a.s.now w _ a.line a.i _ _ k
+    (appends_item 3 _ c.header.ensures (c.put_content.ensures (cap_of w) k.content k.is k.long) (sym k.long))

@@ -1,41 +1,46 @@
-use borrow.Author.Rules.{rules}
-use native.Mathlib.Omega.{arith}
 use mathlib.Core.Path.{subst}
-use Rattle.scalar.specs.Code.{quoted_of, AgreesPiece}
+use native.Mathlib.Omega.{arith}
+use Rattle.std.proofs.lemmas.Result.{err_from_is_err_and}
+use Rattle.std.specs.Prelude.{Ok}
+use Rattle.scalar.specs.Contract.{quoted_of}
+use Rattle.scalar.specs.Code.{ReadsPiece}
+use Rattle.scalar.specs.declared.quoted_text.Piece.{Piece}
 use Rattle.scalar.proofs.QuoteLaws.{passed_none, passed-byte, passed-shut, passed-refused}
 use Rattle.scalar.proofs.quoted_text.span_of.Goals as goal
 
 pub loop-next-init : goal.loop-next-init
-loop-next-init c = let a = c.args in (search rules, search rules, λ cap. passed_none cap a.line (quoted_of a.quote cap a.line) a.s.now a.i)
+loop-next-init c = let a = c.args in (omega arith, omega (arith, c.requires), λ cap. passed_none cap a.line (quoted_of a.quote cap a.line) a.s.now a.i)
 
 pub loop-next-smaller : goal.loop-next-smaller
-loop-next-smaller c = let l = c.loop-next in let a = c.args in
-    let k = subst (AgreesPiece (quoted_of a.quote 0 a.line) (quoted_of a.quote 0 a.line) 0 a.line a.s.now l.place)
-    c.in-Byte.is (c.piece_at.ensures 0) in omega (arith, k.1, k.2)
+loop-next-smaller c =
+    let a = c.args in
+    let f = quoted_of a.quote 0 a.line in
+    let k = subst (λ (r : Piece). ReadsPiece f f 0 a.line a.s.now c.loop-next.place (Ok r)) c.in-Byte.is (c.in_ok-next.ensures 0) in
+    omega (arith, k.1, k.2)
 
 pub loop-next-preserved : goal.loop-next-preserved
 loop-next-preserved c =
     let l = c.loop-next in
     let a = c.args in
-    let k = subst (AgreesPiece (quoted_of a.quote 0 a.line) (quoted_of a.quote 0 a.line) 0 a.line a.s.now l.place) c.in-Byte.is (c.piece_at.ensures 0) in (
+    let f = quoted_of a.quote 0 a.line in
+    let k = subst (λ (r : Piece). ReadsPiece f f 0 a.line a.s.now l.place (Ok r)) c.in-Byte.is (c.in_ok-next.ensures 0) in (
       omega (arith, k.1),
       omega (arith, k.2),
-      λ cap. passed-byte cap a.line (quoted_of a.quote cap a.line) a.s.now a.i l.place l.size (l.invariant.2 cap) _ _
-          (subst (AgreesPiece (quoted_of a.quote cap a.line) (quoted_of a.quote cap a.line) cap a.line a.s.now l.place)
-          c.in-Byte.is (c.piece_at.ensures cap)).0,
+      λ cap. let g = quoted_of a.quote cap a.line in passed-byte cap a.line g a.s.now a.i l.place l.size (l.invariant.2 cap) _ _
+          (subst (λ (r : Piece). ReadsPiece g g cap a.line a.s.now l.place (Ok r)) c.in-Byte.is (c.in_ok-next.ensures cap)).0,
     )
 
 pub returns-in-Shut : goal.returns-in-Shut
 returns-in-Shut c =
     let l = c.loop-next in
     let a = c.args in
-    λ cap. let k = subst (AgreesPiece (quoted_of a.quote cap a.line) (quoted_of a.quote cap a.line) cap a.line a.s.now l.place) c.in-Shut.is (c.piece_at.ensures cap) in
-    passed-shut cap a.line (quoted_of a.quote cap a.line) a.s.now a.i l.place l.size (l.invariant.2 cap) _ k.0 k.1 (omega arith)
+    λ cap. let g = quoted_of a.quote cap a.line in
+    let k = subst (λ (r : Piece). ReadsPiece g g cap a.line a.s.now l.place (Ok r)) c.in-Shut.is (c.in_ok-next.ensures cap) in
+    passed-shut cap a.line g a.s.now a.i l.place l.size (l.invariant.2 cap) _ k.0 k.1 (omega arith)
 
-pub returns-in-Refused : goal.returns-in-Refused
-returns-in-Refused c =
+pub returns-in_err-next : goal.returns-in_err-next
+returns-in_err-next c =
     let l = c.loop-next in
     let a = c.args in
-    λ cap. passed-refused cap a.line (quoted_of a.quote cap a.line) a.s.now a.i l.place l.size (l.invariant.2 cap) c.in-Refused.e
-    (subst (AgreesPiece (quoted_of a.quote cap a.line) (quoted_of a.quote cap a.line) cap a.line a.s.now l.place)
-    c.in-Refused.is (c.piece_at.ensures cap))
+    λ cap. let p = err_from_is_err_and c.from_residual.result c.from_residual.ensures.1 in
+    rw (p.1, p.2) (passed-refused cap a.line (quoted_of a.quote cap a.line) a.s.now a.i l.place l.size (l.invariant.2 cap) _ (c.in_err-next.ensures cap))

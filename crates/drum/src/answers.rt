@@ -1,0 +1,169 @@
+// What the answer of each job is in five numbers.
+#![tactic(auto, unfolding(crate::specs::Numbers::numbers, crate::specs::Numbers::of_none, crate::specs::Numbers::of_one, crate::specs::Numbers::of_three, crate::specs::Numbers::of_four, crate::specs::Numbers::of_found))]
+
+ghost use Rattle.std.specs.Prelude.{◌≡◌, ℕ, ◌<◌, ◌^◌, List, [], ◌∷◌};
+ghost use Rattle.refusal.specs.Told.{told_of};
+ghost use Rattle.tree.specs.Tree as trees;
+ghost use Rattle.scenario.specs.Scenario as scenarios;
+ghost use Rattle.record.specs.Jobs as records;
+ghost use Rattle.check_steps.specs.CheckSteps as checks;
+ghost use Rattle.lookups.specs.Lookups as lookups;
+ghost use Rattle.share.specs.Share as shares;
+ghost use Rattle.pair_logs.specs.PairLogs as pairings;
+ghost use Rattle.drum.specs.Numbers.{numbers, of_none, of_one, of_three, of_four, of_found, first_of};
+
+use check_steps::StepsAnswer;
+use lookups::TimesAnswer;
+use pair_logs::PairAnswer;
+use record::{Lookup, RecordAnswer};
+use refusal::Refusal;
+use scenario::ScenarioAnswer;
+use share::ShareAnswer;
+use tree::TreeAnswer;
+
+// How a job ended: the first number of an answer.
+enum State {
+    Accepted = 0,
+    Refused = 1,
+    Nothing = 2,
+}
+
+// The answer of a job, which is told in five numbers.
+pub trait Answer {
+    ghost as_told: { Self → List ℕ };
+
+    fn numbers(self) -> [u64; 5]
+        ensures told { result ≡ as_told self }
+        ensures first { first_of result < 2 ^ 32 };
+}
+
+// A refusal in five numbers, of any job.
+fn refused(e: Refusal) -> [u64; 5]
+    ensures { result ≡ 1 ∷ (told_of e).number ∷ (told_of e).line ∷ (told_of e).step ∷ 0 ∷ [] }
+{
+    let told = e.told();
+    [
+        State::Refused as u64,
+        told.number as u64,
+        told.line as u64,
+        told.step as u64,
+        0,
+    ]
+}
+
+impl Answer for TreeAnswer {
+    ghost as_told = { λ a. numbers of_one (trees.answer_of a) };
+
+    fn numbers(self) -> [u64; 5] {
+        match self {
+            TreeAnswer::Read { bytes } => [State::Accepted as u64, bytes as u64, 0, 0, 0],
+            TreeAnswer::Refused(e) => refused(e),
+        }
+    }
+}
+
+impl Answer for ScenarioAnswer {
+    ghost as_told = { λ a. numbers of_four (scenarios.answer_of a) };
+
+    fn numbers(self) -> [u64; 5] {
+        match self {
+            ScenarioAnswer::Read {
+                tree_bytes,
+                record_bytes,
+                line_bytes,
+                steps,
+            } => [
+                State::Accepted as u64,
+                tree_bytes as u64,
+                record_bytes as u64,
+                line_bytes as u64,
+                steps as u64,
+            ],
+            ScenarioAnswer::Refused(e) => refused(e),
+        }
+    }
+}
+
+impl Answer for RecordAnswer {
+    ghost as_told = { λ a. numbers of_one (records.answer_of a) };
+
+    fn numbers(self) -> [u64; 5] {
+        match self {
+            RecordAnswer::Good { steps } => [State::Accepted as u64, steps as u64, 0, 0, 0],
+            RecordAnswer::Refused(e) => refused(e),
+        }
+    }
+}
+
+impl Answer for StepsAnswer {
+    ghost as_told = { λ a. numbers of_one (checks.answer_of a) };
+
+    fn numbers(self) -> [u64; 5] {
+        match self {
+            StepsAnswer::Good { steps } => [State::Accepted as u64, steps as u64, 0, 0, 0],
+            StepsAnswer::Refused(e) => refused(e),
+        }
+    }
+}
+
+impl Answer for Lookup {
+    ghost as_told = { λ a. numbers of_found (records.lookup_of a) };
+
+    fn numbers(self) -> [u64; 5] {
+        match self {
+            Lookup::Found { start, end } => [
+                State::Accepted as u64,
+                start as u64,
+                end as u64,
+                0,
+                0,
+            ],
+            Lookup::Nothing => [State::Nothing as u64, 0, 0, 0, 0],
+            Lookup::Refused(e) => refused(e),
+        }
+    }
+}
+
+impl Answer for TimesAnswer {
+    ghost as_told = { λ a. numbers of_one (lookups.times_of a) };
+
+    fn numbers(self) -> [u64; 5] {
+        match self {
+            TimesAnswer::Times(n) => [State::Accepted as u64, n as u64, 0, 0, 0],
+            TimesAnswer::Refused(e) => refused(e),
+        }
+    }
+}
+
+// The eight strokes are no part of what is told, so none stand here.
+impl Answer for ShareAnswer {
+    ghost as_told = { λ a. numbers of_none (shares.answer_of a []) };
+
+    fn numbers(self) -> [u64; 5] {
+        match self {
+            ShareAnswer::Given => [State::Accepted as u64, 0, 0, 0, 0],
+            ShareAnswer::Refused(e) => refused(e),
+        }
+    }
+}
+
+impl Answer for PairAnswer {
+    ghost as_told = { λ a. numbers of_three (pairings.answer_of a) };
+
+    fn numbers(self) -> [u64; 5] {
+        match self {
+            PairAnswer::Paired {
+                pairs,
+                lone_hammers,
+                lone_sounds,
+            } => [
+                State::Accepted as u64,
+                pairs as u64,
+                lone_hammers as u64,
+                lone_sounds as u64,
+                0,
+            ],
+            PairAnswer::Refused(e) => refused(e),
+        }
+    }
+}

@@ -1,9 +1,0 @@
--- Eight stores, one behind the other, are the number: the quotients of quotients are those by the products. Assumes nothing.
-use native.Mathlib.Nat.{div-div-eq-div-mul}
-use native.Mathlib.Numerals.{towards_suc}
-use Rattle.item.specs.Encode.{le}
-use Rattle.item.proofs.put_u64.Goals as goal
-
-pub returns : goal.returns
-unfolding le
-returns c = simp (towards_suc, div-div-eq-div-mul)

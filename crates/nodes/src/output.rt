@@ -1,0 +1,132 @@
+// The record as it is written: stored as far as it fits, and counted beyond that, so that one walk serves for both.
+ghost use Rattle.std.specs.Prelude.{◌≡◌, ◌+◌, ◌≤◌, ◌^◌, length};
+ghost use Rattle.item.specs.Tree.{null, bool};
+ghost use Rattle.item.specs.Encode.{item, encode, signed};
+ghost use Rattle.number.specs.Integers.{int_text};
+ghost use Rattle.scalar.specs.Scalars.{bool_text};
+
+use crate::Scalar;
+use item::{Integer, Kind, copy, put_header};
+use number::{int_len, put_int_text};
+
+// How many bytes an item's header has.
+pub(crate) const HEADER: usize = 6;
+
+/// A lent output, and where what was written ends, which may be beyond it.
+#[derive(Drop)]
+pub struct RecordWriter<'a> {
+    pub out: &'a mut [u8],
+    pub end: usize,
+    pub ghost counted: { length out.now ≤ 2 ^ 20 },
+}
+
+impl<'a> RecordWriter<'a> {
+    pub fn new(out: &'a mut [u8]) -> RecordWriter<'a>
+        requires { length out.old ≤ 2 ^ 20 }
+        ensures same_reference { result.out.ghost_name ≡ out.entry.ghost_name }
+        ensures kept { result.out.now ≡ out.old }
+        ensures empty { result.end ≡ 0 }
+    {
+        RecordWriter { out, end: 0 }
+    }
+}
+
+impl RecordWriter<'_> {
+    ghost use Rattle.item.specs.Kinds.{number_of};
+    ghost use Rattle.nodes.specs.Writing.{Writes, Opens, Closes};
+    ghost use Rattle.nodes.specs.Contract.{text_of};
+
+    pub fn put(&mut self, bytes: &[u8])
+        ensures { Writes self.old self.new bytes.now }
+    {
+        let end = self.end.saturating_add(bytes.len());
+        if end <= self.out.len() {
+            let out = &mut *self.out;
+            copy(out, self.end, bytes);
+        }
+        self.end = end;
+    }
+
+    /// Leaves a header free, which `close` fills in, and tells where it is.
+    pub fn open(&mut self) -> usize
+        ensures { Opens self.old self.new result }
+    {
+        let header = self.end;
+        self.end = header.saturating_add(HEADER);
+        header
+    }
+
+    /// Fills in the header of an item, if the item fits: its content is all that stands behind it.
+    pub fn close(&mut self, header: usize, kind: Kind)
+        requires { self.old.end ≤ length self.old.out.now → header + 6 ≤ self.old.end }
+        ensures { Closes self.old self.new header (number_of kind) }
+    {
+        if self.end <= self.out.len() {
+            let out = &mut *self.out;
+            put_header(out, header, kind as usize, self.end - header - HEADER);
+        }
+    }
+
+    pub fn null(&mut self)
+        ensures { Writes self.old self.new (encode null) }
+    {
+        let header = self.open();
+        self.close(header, Kind::Null);
+    }
+
+    pub fn bool(&mut self, value: bool)
+        ensures { Writes self.old self.new (encode (bool value)) }
+    {
+        let header = self.open();
+        self.put(&[value as u8]);
+        self.close(header, Kind::Bool);
+    }
+
+    pub fn text(&mut self, text: &[u8])
+        ensures { Writes self.old self.new (item 3 text.now) }
+    {
+        let header = self.open();
+        self.put(text);
+        self.close(header, Kind::Str);
+    }
+
+    fn digits(&mut self, n: Integer)
+        ensures { Writes self.old self.new (int_text (signed n.negative n.magnitude)) }
+    {
+        let end = self.end.saturating_add(int_len(n));
+        if end <= self.out.len() {
+            let out = &mut *self.out;
+            put_int_text(out, self.end, n);
+        }
+        self.end = end;
+    }
+
+    fn integer(&mut self, n: Integer)
+        ensures { Writes self.old self.new (item 3 (int_text (signed n.negative n.magnitude))) }
+    {
+        let header = self.open();
+        self.digits(n);
+        self.close(header, Kind::Str);
+    }
+
+    fn truth(&mut self, value: bool)
+        ensures { Writes self.old self.new (item 3 (bool_text value)) }
+    {
+        if value {
+            self.text(b"true");
+        } else {
+            self.text(b"false");
+        }
+    }
+
+    /// A scalar as a text.
+    pub fn scalar(&mut self, scalar: Scalar<'_>)
+        ensures { Writes self.old self.new (item 3 (text_of scalar.entry)) }
+    {
+        match scalar {
+            Scalar::Bool(value) => self.truth(value),
+            Scalar::Int(n) => self.integer(n),
+            Scalar::Str(text) => self.text(text),
+        }
+    }
+}

@@ -1,0 +1,159 @@
+// A lent output, of which the front is used: readers write items into it as they read.
+#![tactic(auto)]
+
+ghost use Rattle.std.specs.Prelude.{◌≡◌, ◌+◌, ◌-◌, ◌≤◌, ◌<◌, ◌^◌, [], ◌∷◌, length, take, MatchResult};
+ghost use Rattle.item.specs.Tree.{null, bool, int, str};
+ghost use Rattle.item.specs.Encode.{head, signed, encode};
+
+use item::{Integer, Kind};
+use refusal::Refusal;
+
+// How many bytes an item's header has.
+const HEADER: usize = 6;
+
+/// The output, all of which counts, and how many of its bytes are used.
+#[derive(Drop)]
+pub struct Writer<'a> {
+    pub out: &'a mut [u8],
+    pub used: usize,
+    pub ghost within: { used ≤ length out.now },
+    pub ghost counted: { length out.now ≤ 2 ^ 20 },
+}
+
+impl<'a> Writer<'a> {
+    pub fn new(out: &'a mut [u8]) -> Writer<'a>
+        requires { length out.old ≤ 2 ^ 20 }
+        ensures same_reference { result.out.ghost_name ≡ out.entry.ghost_name }
+        ensures kept { result.out.now ≡ out.old }
+        ensures empty { result.used ≡ 0 }
+    {
+        Writer { out, used: 0 }
+    }
+}
+
+impl Writer<'_> {
+    ghost use Rattle.item.specs.Kinds.{number_of};
+    ghost use Rattle.writer.specs.Writing.{room_of, Appends, Begins, Fills, CutsBack};
+
+    pub fn used(&self) -> usize
+        ensures { result ≡ self.now.used }
+    {
+        self.used
+    }
+
+    /// The bytes that are used.
+    pub fn bytes(&self) -> &[u8]
+        ensures { result.now ≡ take self.now.used self.now.out.now }
+    {
+        &self.out[..self.used]
+    }
+
+    /// Whether so many bytes more fit.
+    pub fn reserve(&self, bytes: usize) -> Result<(), Refusal>
+        ensures { MatchResult result (λ _. bytes ≤ room_of self.now)
+            (λ e. (room_of self.now < bytes) × (e ≡ Refusal.WorkTooShort)) }
+    {
+        if bytes <= self.out.len() - self.used {
+            Ok(())
+        } else {
+            Err(Refusal::WorkTooShort)
+        }
+    }
+
+    pub fn put(&mut self, bytes: &[u8])
+        requires { length bytes.now ≤ room_of self.old }
+        ensures { Appends self.old self.new bytes.now }
+    {
+        let out = &mut *self.out;
+        item::copy(out, self.used, bytes);
+        self.used += bytes.len();
+    }
+
+    pub fn push(&mut self, byte: u8)
+        requires { self.old.used < length self.old.out.now }
+        ensures { Appends self.old self.new (byte ∷ []) }
+    {
+        self.out[self.used] = byte;
+        self.used += 1;
+    }
+
+    /// The header of an item whose content, of so many bytes, is still to be put.
+    #[tactic(auto, using(crate::proofs::Sizes::sizes))]
+    pub fn header(&mut self, kind: Kind, size: usize)
+        requires room { 6 ≤ room_of self.old }
+        requires small { size < 2 ^ 32 }
+        ensures { Appends self.old self.new (head (number_of kind) size) }
+    {
+        let out = &mut *self.out;
+        item::put_header(out, self.used, kind as usize, size);
+        self.used += HEADER;
+    }
+
+    #[tactic(auto, using(crate::proofs::Sizes::sizes))]
+    pub fn null(&mut self)
+        requires { 6 ≤ room_of self.old }
+        ensures { Appends self.old self.new (encode null) }
+    {
+        let out = &mut *self.out;
+        item::put_null(out, self.used);
+        self.used += HEADER;
+    }
+
+    #[tactic(auto, using(crate::proofs::Sizes::sizes))]
+    pub fn bool(&mut self, value: bool)
+        requires { 7 ≤ room_of self.old }
+        ensures { Appends self.old self.new (encode (bool value)) }
+    {
+        let out = &mut *self.out;
+        item::put_bool(out, self.used, value);
+        self.used += HEADER + 1;
+    }
+
+    #[tactic(auto, using(crate::proofs::Sizes::sizes))]
+    pub fn int(&mut self, n: Integer)
+        requires { 14 ≤ room_of self.old }
+        ensures { Appends self.old self.new (encode (int (signed n.negative n.magnitude))) }
+    {
+        let out = &mut *self.out;
+        item::put_int(out, self.used, n);
+        self.used += HEADER + 8;
+    }
+
+    #[tactic(auto, using(crate::proofs::Sizes::sizes))]
+    pub fn string(&mut self, bytes: &[u8])
+        requires { 6 + length bytes.now ≤ room_of self.old }
+        ensures { Appends self.old self.new (encode (str bytes.now)) }
+    {
+        let out = &mut *self.out;
+        item::put_string(out, self.used, bytes);
+        self.used += HEADER + bytes.len();
+    }
+
+    /// Takes the six bytes of a header, which `end` fills in, and tells where they are.
+    pub fn begin(&mut self) -> Result<usize, Refusal>
+        ensures { MatchResult result (λ header. Begins self.old self.new header)
+            (λ e. (room_of self.old < 6) × (e ≡ Refusal.WorkTooShort) × (self.new ≡ self.old)) }
+    {
+        self.reserve(HEADER)?;
+        let header = self.used;
+        self.used += HEADER;
+        Ok(header)
+    }
+
+    /// Fills in the header of an item whose content is all that stands behind it.
+    pub fn end(&mut self, header: usize, kind: Kind)
+        requires { header + 6 ≤ self.old.used }
+        ensures { Fills self.old self.new header (head (number_of kind) (self.old.used - (header + 6))) }
+    {
+        let out = &mut *self.out;
+        item::put_header(out, header, kind as usize, self.used - header - HEADER);
+    }
+
+    /// Takes back what stands behind so many bytes.
+    pub fn truncate(&mut self, used: usize)
+        requires { used ≤ self.old.used }
+        ensures { CutsBack self.old self.new used }
+    {
+        self.used = used;
+    }
+}
