@@ -1,12 +1,7 @@
 -- Where the loops over lines stand, what each of their turns comes to, and what closes a collection. Assumes nothing.
-use mathlib.Core.Path.{◌≡◌, refl, sym, ap, ◌∙◌, subst}
-use Prim.Native.Nat.{ℕ, zero, suc, ◌+◌, ◌-◌, ◌≤◌, ◌<◌}
-use native.Mathlib.Omega.{arith}
-use mathlib.Core.List.{List, [], ◌∷◌, ◌++◌, append_assoc}
-use mathlib.Core.Bool.{Bool, true, false, ◌&&◌}
-use mathlib.Core.Option.{none, some}
-use lib.ListN.{length, take, drop, length-append, length-drop}
-use lib.Seq.{sets-eq, drop_at, take_at, take_all, length-take-le}
+use Rattle.std.proofs.Common.{◌≡◌, refl, sym, ap, ◌∙◌, subst, ℕ, zero, suc, ◌+◌, ◌-◌, ◌≤◌, ◌<◌, arith, List, [], ◌∷◌, ◌++◌, append_assoc, Bool, true, false, ◌&&◌, length, take, drop, length-append, length-drop, drop_at, take_at, take_all, length-take-le, Ok, Err}
+use Rattle.std.proofs.Math.Option.{none, some}
+use Rattle.std.proofs.lemmas.List.Edits.{sets-eq}
 use Rattle.refusal.specs.Base.{good, refused, ◌>>=◌, ◌>>◌, ensure, maybe}
 use Rattle.refusal.specs.Told.{refusal}
 use Rattle.refusal.specs.declared.Refusal.{Refusal}
@@ -26,11 +21,10 @@ use Rattle.flow.specs.Flow.{fresh}
 use Rattle.entries.proofs.Twice.{add-bytes}
 use Rattle.flow.proofs.Invariants.{lies-kept, lies-stored, snoc-bytes}
 use Rattle.literal.specs.Literal.{Read}
-use Rattle.std.specs.Prelude.{Ok, Err}
 use Rattle.literal.specs.Contract.{WroteBlock}
 use Rattle.block.specs.Block.{Inside, key_at, entry_at, map_turn, map_lines, entries_of, block_map, inline_map, item_behind, seq_turn, seq_lines, items_of, block_seq, within}
 use Rattle.block.specs.Contract.{key_here, dash_here, WroteEntry, Judged, Ran}
-use Rattle.block.proofs.Cases.{charged, uncharged}
+use Rattle.block.proofs.Cases.{charged, uncharged, entries-as}
 use Rattle.block.proofs.Judging.{judged-none, judged-as, judged-add}
 
 -- ---- an entry behind others, as the search for its key finds them
@@ -75,7 +69,7 @@ unfolding entries_of encode
 mapped-start ls first indent levels exact old h =
     record { got = done; turns = length (drop first ls); enough = omega arith; judged = judged-none; appends = appends_none old; on = omega arith; within' = h }
 
-module _ (ls : List Line) (first indent levels : ℕ) (exact : Bool) (old out : Writer) (i : ℕ) (v : Mapped ls first indent levels exact old out i) where
+module _ {ls : List Line} {first indent levels : ℕ} {exact : Bool} {old out : Writer} {i : ℕ} (v : Mapped ls first indent levels exact old out i) where
   abbrev cap : ℕ
   cap = cap_of old
 
@@ -208,7 +202,7 @@ pub list_full : (old new : Writer) (inside : Inside) (indent : ℕ) (rest : List
 unfolding block_seq ◌>>=◌
 list_full old new inside indent rest h e = record { is = rw (uncharged (cap_of old) old.used (omega arith)); keeps = keeps_same e }
 
-module _ (ls : List Line) (first indent levels : ℕ) (a old : Writer) (header : ℕ) (begun : Begins a old header) (out : Writer) (i : ℕ) (v : Listed ls first indent levels old out i) where
+module _ {ls : List Line} {first indent levels : ℕ} {a old : Writer} {header : ℕ} (begun : Begins a old header) {out : Writer} {i : ℕ} (v : Listed ls first indent levels old out i) where
   abbrev scap : ℕ
   scap = cap_of old
 
@@ -339,19 +333,26 @@ module _ (a b : Writer) (header : ℕ) (begun : Begins a b header) (levels n ind
   unfolding ◌>>=◌
   inline-stops new z r = record { is = inlined-is ∙ rw r.is; keeps = keeps_more (keeps_begun begun) r.keeps }
 
-  module _ (ls : List Line) (i : ℕ) (mid : Writer) (j c : ℕ) (w : WroteEntry ientry ls i b mid j c) where
+  -- `x` is the column as the code has it
+  module _ (ls : List Line) (i : ℕ) (mid : Writer) (j c : ℕ) (w : WroteEntry ientry ls i b mid j c) (x : ℕ) (q : x ≡ indent) where
     abbrev later : Read Entries
     later = entries_of icap iinside indent mid.used (drop j ls)
 
-    pub inline-later : (new : Writer) (z : Refusal) → Refuses later mid new z → Refuses inlined a new z
+    abbrev later-read : Read Entries
+    later-read = entries_of (cap_of mid) (within (cap_of mid) levels) x mid.used (drop j ls)
+
+    later-as : later ≡ later-read
+    later-as = entries-as (cap_of mid) icap levels x indent mid.used (drop j ls) (len_appended w.appends) q
+
+    pub inline-later : (new : Writer) (z : Refusal) → Refuses later-read mid new z → Refuses inlined a new z
     unfolding ◌>>=◌
     inline-later new z r =
         record {
-          is = inlined-is ∙ rw (w.is, r.is);
+          is = inlined-is ∙ rw (w.is, later-as ∙ r.is);
           keeps = keeps_more (keeps_begun begun) (keeps_more (keeps_appended w.appends) r.keeps);
         }
 
-    module _ (out : Writer) (m : ℕ) (d : WroteBlock later ls j mid out m) where
+    module _ (out : Writer) (m : ℕ) (d : WroteBlock later-read ls j mid out m) where
       abbrev ibytes : List ℕ
       ibytes = take out.used out.out.now
 
@@ -377,7 +378,7 @@ module _ (a b : Writer) (header : ℕ) (begun : Begins a b header) (levels n ind
         unfolding ◌>>=◌ ◌>>◌ fresh ensure
         inline-twice f k e =
             record {
-              is = inlined-is ∙ rw (w.is, d.is, sym found_first ∙ f, e);
+              is = inlined-is ∙ rw (w.is, later-as ∙ d.is, sym found_first ∙ f, e);
               keeps = keeps_more (keeps_begun begun) (keeps_appended behind-is);
             }
 
@@ -386,7 +387,7 @@ module _ (a b : Writer) (header : ℕ) (begun : Begins a b header) (levels n ind
         inline-close f o new h =
             record {
               tree = dict (pair w.key w.tree d.tree);
-              is = inlined-is ∙ rw (w.is, d.is, sym found_first ∙ f, h.used);
+              is = inlined-is ∙ rw (w.is, later-as ∙ d.is, sym found_first ∙ f, h.used);
               appends = filled 5 begun behind-is h;
               on = omega (arith, o, d.on);
               within = d.within;

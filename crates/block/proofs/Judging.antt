@@ -1,9 +1,6 @@
 -- Entries whose keys are judged once, behind the last of them. Assumes nothing.
-use mathlib.Core.Path.{◌≡◌, refl, sym, ◌∙◌}
-use Prim.Native.Nat.{ℕ}
-use native.Mathlib.Omega.{arith}
-use mathlib.Core.List.{List}
-use mathlib.Core.Bool.{Bool, true, false, ◌||◌, false≢true}
+use Rattle.std.proofs.Common.{◌≡◌, refl, sym, ◌∙◌, ℕ, arith, List, Bool, true, false, ◌||◌, Result, Ok, Err}
+use Rattle.std.proofs.lemmas.Bool.{false≢true}
 use Rattle.refusal.specs.Base.{◌>>=◌, ◌>>◌, ensure}
 use Rattle.refusal.proofs.Tools.{refused≢good}
 use Rattle.item.specs.Tree.{Yaml, Entries, done, add, has_key}
@@ -16,7 +13,6 @@ use Rattle.flow.specs.Flow.{fresh}
 use Rattle.flow.proofs.Invariants.{twice-add}
 use Rattle.literal.specs.Literal.{Read}
 use Rattle.refusal.specs.declared.Refusal.{Refusal}
-use Rattle.std.specs.Prelude.{Result, Ok, Err}
 use Rattle.literal.specs.Contract.{AgreesBlock}
 use Rattle.block.specs.Contract.{Twice, Judged, Ran}
 use Rattle.block.proofs.Cases.{agrees-block}

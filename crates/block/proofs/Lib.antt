@@ -4,4 +4,5 @@ pub mod Progress
 pub mod Cases
 pub mod Judging
 pub mod Invariants
+pub mod Turns
 pub mod Open

@@ -1,12 +1,7 @@
 -- What the small readers of blocks come to, by the places of the code. Assumes nothing.
-use mathlib.Core.Path.{◌≡◌, refl, sym, ap, ◌∙◌}
-use Prim.Native.Nat.{ℕ, suc, ◌+◌, ◌≤◌, ◌<◌}
-use native.Mathlib.Omega.{arith}
-use mathlib.Core.List.{List, [], ◌∷◌}
-use mathlib.Core.Bool.{Bool, true, false}
-use mathlib.Core.Option.{Option, none, some}
-use lib.ListN.{length, drop}
-use borrow.Author.Tests.{eq-eqb, ne_eqb, le-leb, lt-leb}
+use Rattle.std.proofs.Common.{◌≡◌, refl, sym, ap, ◌∙◌, ℕ, suc, ◌+◌, ◌≤◌, ◌<◌, arith, List, [], ◌∷◌, Bool, true, false, length, drop, eq-eqb, ne_eqb, le-leb}
+use Rattle.std.proofs.Math.Option.{Option, none, some}
+use Rattle.std.proofs.lemmas.Bool.{lt-leb}
 use Rattle.refusal.specs.Base.{Answer, ◌>>=◌, ◌>>◌, ensure, given, maybe, bytes, empty}
 use Rattle.refusal.proofs.Tools.{chosen, present}
 use Rattle.refusal.specs.declared.Refusal.{Refusal}
@@ -86,17 +81,17 @@ module _ (text : List ℕ) (start end from : ℕ) (h : start < end) (k : end ≤
 -- ---- how a line begins
 
 module _ (t : List ℕ) where
-  pub opens-dash : dashed t ≡ true → opening_of t ≡ Dash
+  pub opens_dash : dashed t ≡ true → Dash ≡ opening_of t
   unfolding opening_of
-  opens-dash e = rw e
+  opens_dash e = rw e
 
-  pub opens-key : dashed t ≡ false → (k : ℕ) → key_end t ≡ some k → opening_of t ≡ Key k
+  pub opens_key : dashed t ≡ false → (k : ℕ) → At k ≡ found_of (key_end t) → Key k ≡ opening_of t
   unfolding opening_of maybe
-  opens-key e k f = rw (e, f)
+  opens_key e k f = rw (e, found_at (key_end t) k f)
 
-  pub opens-flow : dashed t ≡ false → key_end t ≡ none → opening_of t ≡ Flow
+  pub opens_flow : dashed t ≡ false → NotFound ≡ found_of (key_end t) → Flow ≡ opening_of t
   unfolding opening_of maybe
-  opens-flow e f = rw (e, f)
+  opens_flow e f = rw (e, found_nothing (key_end t) f)
 
   pub key-opened : (k : ℕ) → opening_of t ≡ Key k → key_end t ≡ some k
   unfolding opening_of
@@ -193,23 +188,33 @@ module _ (t : List ℕ) (n levels : ℕ) (old : Writer) where
 -- ---- the lines
 
 module _ (ls : List Line) (i indent : ℕ) where
-  pub dash-end : i ≡ length ls → false ≡ dash_here indent (drop i ls)
+  pub dash_end : i ≡ length ls → false ≡ dash_here indent (drop i ls)
   unfolding dash_here
-  dash-end e = sym (ap (dash_here indent) (lines_end ls i e))
+  dash_end e = sym (ap (dash_here indent) (lines_end ls i e))
 
-  pub key-end-none : i ≡ length ls → none ≡ key_here indent (drop i ls)
+  pub key_none : i ≡ length ls → NotFound ≡ found_of (key_here indent (drop i ls))
   unfolding key_here
-  key-end-none e = sym (ap (key_here indent) (lines_end ls i e))
+  key_none e = sym (ap (λ (l : List Line). found_of (key_here indent l)) (lines_end ls i e))
 
   module _ (h : i < length ls) where
-    pub dash-on : is_dash indent (line_at ls i) ≡ dash_here indent (drop i ls)
+    pub dash_on : is_dash indent (line_at ls i) ≡ dash_here indent (drop i ls)
     unfolding dash_here
-    dash-on = sym (ap (dash_here indent) (lines_next ls i h))
+    dash_on = sym (ap (dash_here indent) (lines_next ls i h))
 
-    pub key-elsewhere : ((line_at ls i).indent ≡ indent → ⊥) → none ≡ key_here indent (drop i ls)
+    pub key_elsewhere : ((line_at ls i).indent ≡ indent → ⊥) → NotFound ≡ found_of (key_here indent (drop i ls))
     unfolding key_here key_at
-    key-elsewhere n = sym (ap (key_here indent) (lines_next ls i h) ∙ rw (ne_eqb (line_at ls i).indent indent n))
+    key_elsewhere n = sym (ap (λ (l : List Line). found_of (key_here indent l)) (lines_next ls i h) ∙ rw (ne_eqb (line_at ls i).indent indent n))
 
     pub key-on : (line_at ls i).indent ≡ indent → key_end (line_at ls i).text ≡ key_here indent (drop i ls)
     unfolding key_here key_at
     key-on e = sym (ap (key_here indent) (lines_next ls i h) ∙ rw (eq-eqb (line_at ls i).indent indent e))
+
+    pub key_read : (line_at ls i).indent ≡ indent → (t : List ℕ) → t ≡ (line_at ls i).text → found_of (key_end t) ≡ found_of (key_here indent (drop i ls))
+    key_read e t p = ap (λ (b : List ℕ). found_of (key_end b)) p ∙ ap found_of (key-on e)
+
+-- what the search tries
+pub ruleset openings = (opens_dash, opens_key, opens_flow)
+
+pub ruleset dashes = (dash_end, dash_on)
+
+pub ruleset keys = (key_none, key_elsewhere, key_read)

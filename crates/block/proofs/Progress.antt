@@ -1,12 +1,6 @@
 -- A reading of lines leaves no more of them than it was given, and each turn of a loop takes one: so the loops' counts are never used up. Assumes nothing.
-use mathlib.Core.Path.{◌≡◌, refl, subst}
-use Prim.Native.Nat.{ℕ, zero, suc, ◌≤◌}
-use native.Mathlib.Omega.{arith}
-use mathlib.Core.List.{List, [], ◌∷◌}
-use mathlib.Core.Bool.{Bool, not}
-use mathlib.Core.Option.{Option, none, some, some-injective, none-ne-some}
-use lib.Dec.{ltb, leb}
-use lib.ListN.{length, take, drop}
+use Rattle.std.proofs.Common.{◌≡◌, refl, subst, ℕ, zero, suc, ◌≤◌, arith, List, [], ◌∷◌, Bool, not, ltb, leb, length, take, drop}
+use Rattle.std.proofs.Math.Option.{Option, none, some, some-injective, none-ne-some}
 use Rattle.refusal.specs.Base.{good, ◌>>=◌, ◌>>◌, given, maybe, bytes, same, empty}
 use Rattle.refusal.proofs.Tools.{good-inj, bound, bound', chosen, present, gave, bind-cong, if-cong, both}
 use Rattle.utf8.specs.White.{trim, trim_start}

@@ -26,14 +26,14 @@ use scalar::{Role, key_end};
 use utf8::{trim_start, trimmed};
 use writer::Writer;
 
-// An entry: the first line that is left, and where the key's item ends.
+/// An entry: the first line that is left, and where the key's item ends.
 #[derive(Clone, Copy, Debug, PartialEq, Eq)]
 pub struct EntryRead {
     pub next: usize,
     pub key_end: usize,
 }
 
-// What a line begins with: a dash, a key that ends at a place, or neither, so that it is one flow value.
+/// What a line begins with: a dash, a key that ends at a place, or neither, so that it is one flow value.
 #[derive(Clone, Copy, Debug, PartialEq, Eq)]
 pub enum Opening {
     Dash,
@@ -41,7 +41,7 @@ pub enum Opening {
     Flow,
 }
 
-// What stands behind a key's colon.
+/// What stands behind a key's colon.
 #[derive(Clone, Copy, Debug, PartialEq, Eq)]
 pub enum Behind {
     Nothing,
@@ -50,6 +50,7 @@ pub enum Behind {
     Value,
 }
 
+#[tactic(auto, using(crate::proofs::Parts::openings))]
 fn opens_with(line: &[u8]) -> Opening
     requires { length line.now ≤ 65535 }
     ensures { result ≡ opening_of line.now }
@@ -203,6 +204,7 @@ fn entry(
 }
 
 // Whether line `i` goes on a mapping at this indentation, and where its key ends.
+#[tactic(auto, using(crate::proofs::Parts::keys))]
 fn key_at(lines: &Lines<'_>, i: usize, indent: usize) -> Found
     requires { i ≤ length lines.now }
     ensures { result ≡ found_of (key_here indent (drop i lines.now)) }
@@ -210,7 +212,8 @@ fn key_at(lines: &Lines<'_>, i: usize, indent: usize) -> Found
     if i == lines.len() {
         return Found::Nothing;
     }
-    if lines.indent(i) != indent {
+    let is_elsewhere = lines.indent(i) != indent;
+    if is_elsewhere {
         return Found::Nothing;
     }
     key_end(lines.text(i))
@@ -272,7 +275,9 @@ fn entries_once(
     while let Found::At(split) = key_at(lines, i, indent) {
         let before = writer.used();
         let read = entry(lines, i, 0, split, levels, writer)?;
-        if has_key(writer.bytes(), start, before, before + 6, read.key_end) {
+        let written = writer.written();
+        let earlier = written.part(start, before);
+        if has_key(earlier, &written.bytes[before + 6..read.key_end]) {
             let line = lines.number(i);
             return Err(Refusal::KeyTwice { line });
         }
@@ -299,7 +304,7 @@ fn entries(
 {
     let start = writer.used();
     let end = all_entries(lines, first, found, indent, levels, writer);
-    if repeats(writer.bytes(), start, writer.used()) {
+    if repeats(writer.written().part(start, writer.used())) {
         writer.truncate(start);
         return entries_once(lines, first, indent, levels, writer);
     }
@@ -350,13 +355,9 @@ fn inline_mapping(
     let later = writer.used();
     let found = key_at(lines, first.next, indent);
     let next = entries(lines, first.next, found, indent, levels, writer)?;
-    if has_key(
-        writer.bytes(),
-        later,
-        writer.used(),
-        header + 12,
-        first.key_end,
-    ) {
+    let written = writer.written();
+    let behind = written.part(later, writer.used());
+    if has_key(behind, &written.bytes[header + 12..first.key_end]) {
         let line = lines.number(i);
         return Err(Refusal::KeyTwice { line });
     }
@@ -394,6 +395,7 @@ fn item(
 }
 
 // Whether line `i` goes on a sequence at this indentation.
+#[tactic(auto, using(crate::proofs::Parts::dashes))]
 fn goes_on(lines: &Lines<'_>, i: usize, indent: usize) -> bool
     requires { i ≤ length lines.now }
     ensures { result ≡ dash_here indent (drop i lines.now) }

@@ -1,9 +1,6 @@
 -- The answers of the check, case by case. Assumes nothing.
-use mathlib.Core.Path.{◌≡◌, sym}
-use Prim.Native.Nat.{ℕ}
-use mathlib.Core.List.{List}
-use mathlib.Core.Bool.{false}
-use mathlib.Core.Option.{some}
+use Rattle.std.proofs.Common.{◌≡◌, sym, ℕ, false, List}
+use Rattle.std.proofs.Math.Option.{some}
 use Rattle.refusal.specs.Base.{good, refused, ◌>>=◌, ◌>>◌, given}
 use Rattle.meaning.specs.Meaning.{Meaning}
 use Rattle.record.specs.Jobs.{opened, check_record}

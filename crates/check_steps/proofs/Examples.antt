@@ -1,10 +1,6 @@
 -- Small records with names, checked: the steps are a scenario's behind `schema` and `name`, so they stand in lines 4 and 5. Assumes nothing.
-use mathlib.Core.Path.{◌≡◌, refl}
-use Prim.Native.Nat.{ℕ}
-use mathlib.Core.List.{List, [], ◌∷◌, ◌++◌}
-use mathlib.Core.Bool.{false}
-use mathlib.Core.Option.{none}
-use lib.IntN.{pos}
+use Rattle.std.proofs.Common.{◌≡◌, refl, ℕ, pos, false, List, [], ◌∷◌, ◌++◌}
+use Rattle.std.proofs.Math.Option.{none}
 use Rattle.refusal.specs.Base.{Answer, good, refused, bytes}
 use Rattle.refusal.proofs.Open.{Base-open}
 use Rattle.utf8.proofs.Open.{Utf8-open}

@@ -1,17 +1,11 @@
 -- The steps of a `repeat`, one by one: each is read before one of them is refused for its command. Assumes nothing.
-use mathlib.Core.Path.{◌≡◌, refl, sym, ap, ◌∙◌, subst}
-use Prim.Native.Nat.{ℕ, suc, ◌+◌, ◌-◌, ◌≤◌, ◌<◌, ◌^◌}
-use native.Mathlib.Omega.{arith}
-use mathlib.Core.List.{List, [], ◌∷◌}
-use mathlib.Core.Bool.{Bool, true, false, ◌&&◌}
-use mathlib.Core.Option.{none, some}
-use lib.ListN.{length, take, drop}
+use Rattle.std.proofs.Common.{◌≡◌, refl, sym, ap, ◌∙◌, subst, ℕ, suc, ◌+◌, ◌-◌, ◌^◌, ◌≤◌, ◌<◌, Bool, true, false, ◌&&◌, List, [], ◌∷◌, length, take, drop, Result, Ok, Err, arith}
+use Rattle.std.proofs.Math.Option.{none, some}
 use Rattle.refusal.specs.Base.{Answer, good, refused, ◌>>=◌, ◌>>◌, ensure, given}
 use Rattle.refusal.specs.Told.{refusal}
 use Rattle.refusal.specs.declared.Refusal.{Refusal}
 use Rattle.item.specs.Tree.{Yaml, null, bool, int, str, seq, dict, Items, end, Ranged}
 use Rattle.item.specs.Encode.{encode, kind_of}
-use Rattle.utf8.proofs.Ranges.{and-false}
 use Rattle.step_lines.specs.StepLines.{head_line, tail_lines}
 use Rattle.entries.specs.Entries.{Stands, Holds}
 use Rattle.entries.proofs.Walking.{no-more-items, ItemTurn, item-turn, no_item}
@@ -19,16 +13,11 @@ use Rattle.meaning.specs.Meaning.{Step}
 use Rattle.meaning.specs.Meanings.{sequence_or, step_at, steps_from}
 use Rattle.step.specs.Contract.{ReadsStep, AgreesStep}
 use Rattle.step.specs.declared.StepPlaces.{StepPlaces}
-use Rattle.std.specs.Prelude.{Result, Ok, Err}
 use Rattle.item.specs.Places.{header_at}
 use Rattle.item.specs.declared.Item.{Item}
 use Rattle.item.specs.declared.Broken.{Broken}
 use Rattle.entries.specs.Entries.{span_at}
 use Rattle.check_steps.specs.CheckSteps.{known, repeated, all_known, check_inner, check_repeat}
-
-and-true : (b : Bool) → b && true ≡ b
-and-true true = refl
-and-true false = refl
 
 -- ---- one step after another
 
@@ -88,7 +77,7 @@ module _ {s : List ℕ} {to at : ℕ} {ns : List (List ℕ)} {line step : ℕ} {
       unfolding this ◌>>=◌
       walk_refused q = sym (turned ∙ ap this (told q))
 
-      walk-on : {p : StepPlaces} → r ≡ Ok p → {k : Bool} → k ≡ known ns (take (p.value - p.key) (drop p.key s))
+      pub walk-on : {p : StepPlaces} → r ≡ Ok p → {k : Bool} → k ≡ known ns (take (p.value - p.key) (drop p.key s))
           → Walked s to next ns line step ys (number + 1) (b && k)
       unfolding this onward all_known ensure ◌>>◌ ◌>>=◌
       walk-on {p} q {k} e =
@@ -109,12 +98,6 @@ module _ {s : List ℕ} {to at : ℕ} {ns : List (List ℕ)} {line step : ℕ} {
               → ((a >>= λ ss. good (x ∷ ss)) >>= λ ss. ensure b 36 line step >> all_known ns line step ss) ≡ (a >>= λ ss. ensure (b && k) 36 line step >> all_known ns line step ss)
           behind x c (good ss) = rw c (both b k (all_known ns line step ss))
           behind x c (refused n l i) = refl
-
-      pub walk-known : {p : StepPlaces} → r ≡ Ok p → true ≡ known ns (take (p.value - p.key) (drop p.key s)) → Walked s to next ns line step ys (number + 1) b
-      walk-known q e = subst (Walked s to next ns line step ys (number + 1)) (and-true b) (walk-on q e)
-
-      pub walk-stranger : {p : StepPlaces} → r ≡ Ok p → false ≡ known ns (take (p.value - p.key) (drop p.key s)) → Walked s to next ns line step ys (number + 1) false
-      walk-stranger q e = subst (Walked s to next ns line step ys (number + 1)) (and-false b) (walk-on q e)
 
 -- ---- the value of `steps`
 

@@ -1,25 +1,16 @@
 -- Names in the bytes of a name list: what a header says of one, the check of the list, and the search. Assumes nothing.
-use mathlib.Core.Path.{◌≡◌, refl, sym, ap, ◌∙◌}
-use Prim.Native.Nat.{ℕ, zero, suc, ◌-◌, ◌≤◌, ◌<◌}
-use native.Mathlib.Omega.{arith}
-use mathlib.Core.List.{List, [], ◌∷◌, append-nil}
-use mathlib.Core.Bool.{Bool, true, false, ◌||◌, ◌&&◌}
-use mathlib.Core.Option.{Option, none, some, some-injective}
-use lib.Dec.{eqb, leb}
-use lib.ListN.{length, take, drop, length-drop, drop_of_length-le, take-append-drop}
-use borrow.Author.Tests.{leb-true}
+use Rattle.std.proofs.Common.{◌≡◌, refl, sym, ap, ◌∙◌, ℕ, zero, suc, ◌-◌, ◌≤◌, ◌<◌, Bool, true, false, ◌&&◌, ◌||◌, eqb, leb, List, [], ◌∷◌, length, take, drop, Ok, Err, append-nil, arith, drop_of_length-le, leb-true, length-drop, take-append-drop}
+use Rattle.std.proofs.Math.Option.{Option, none, some, some-injective}
 use Rattle.refusal.specs.Base.{maybe, same, one_of}
 use Rattle.refusal.proofs.Tools.{chosen}
 use Rattle.item.specs.Encode.{number}
 use Rattle.item.specs.Decode.{◌>>=◌, header, nothing}
 use Rattle.item.specs.Places.{header_at}
-use Rattle.std.specs.Prelude.{Ok, Err}
 use Rattle.item.specs.declared.Item.{Item}
 use Rattle.item.specs.declared.Broken.{Broken}
 use Rattle.item.proofs.Headers.{no_header as no-item-there}
 use Rattle.item.proofs.Exact.{got, none≢, and_left, nothing-inv}
 use Rattle.utf8.specs.Utf8.{is_utf8}
-use Rattle.meaning.specs.Meaning.{built_in_steps}
 use Rattle.value.proofs.Contents.{no_header}
 use Rattle.value.proofs.Invariants.{whole-rest}
 use Rattle.record.specs.Read.{field_of, as_text, content, in_item, many, all}
@@ -28,7 +19,6 @@ use Rattle.record.proofs.Views.{no_field, text-read, no-text}
 use Rattle.record.proofs.Invariants.{ends, left_over}
 use Rattle.record.proofs.Chains.{no_item, no-content, in_item_lem}
 use Rattle.check_steps.specs.Names.{filled, names_in}
-use Rattle.check_steps.specs.CheckSteps.{known}
 
 -- ---- one name
 
@@ -115,9 +105,9 @@ pub record Unread (s key : List ℕ) (at : ℕ) (ns : List (List ℕ)) : Type 0 
   pub is : many (field_of as_text 0) turns (drop at s) ≡ some rest
   pub same_answer : one_of key ns ≡ one_of key rest
 
-pub unread-start : {s key : List ℕ} (ns : List (List ℕ)) → filled s ≡ some ns → Unread s key 0 ns
+pub unread_start : {s key : List ℕ} (ns : List (List ℕ)) → filled s ≡ some ns → Unread s key 0 ns
 unfolding all
-unread-start {s} ns e = record { turns = length s; rest = ns; is = e; same_answer = refl }
+unread_start {s} ns e = record { turns = length s; rest = ns; is = e; same_answer = refl }
 
 none_left : (t : ℕ) {rest : List (List ℕ)} → many (field_of as_text 0) t [] ≡ some rest → rest ≡ []
 unfolding many
@@ -175,9 +165,3 @@ lost (b ∷ bs) (suc t) rest h e n = got (field_of as_text 0 (b ∷ bs)) _ rest 
 
 pub unread-lost : {s key : List ℕ} {at : ℕ} {ns : List (List ℕ)} {X : Type 0} → Unread s key at ns → at < length s → {broken : Broken} → Err broken ≡ header_at s at → X
 unread-lost {s} {at = at} w m e = lost (drop at s) w.turns w.rest (omega (arith, length-drop at s)) w.is (no_field as_text 0 (drop at s) (no_header 0 (drop at s) (no-item-there s at e)))
-
--- ---- known commands
-
-pub known-named : (ns : List (List ℕ)) (key : List ℕ) {a b : Bool} → a ≡ one_of key built_in_steps → b ≡ one_of key ns → a || b ≡ known ns key
-unfolding known
-known-named ns key e p = rw (e, p)

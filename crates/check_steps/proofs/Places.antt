@@ -1,13 +1,8 @@
 -- Where the key and the value of a step stand in its item. Assumes nothing.
-use mathlib.Core.Path.{◌≡◌, sym, ap, ◌∙◌}
-use Prim.Native.Nat.{ℕ, ◌+◌, ◌-◌, ◌≤◌, ◌^◌}
-use native.Mathlib.Omega.{arith}
-use mathlib.Core.List.{List}
-use lib.ListN.{length, take, drop}
+use Rattle.std.proofs.Common.{◌≡◌, sym, ap, ◌∙◌, ℕ, ◌+◌, ◌-◌, ◌^◌, ◌≤◌, List, length, take, drop, None, Some, arith}
 use Rattle.item.specs.Encode.{encode}
 use Rattle.item.proofs.Size.{item-length}
 use Rattle.entries.specs.Entries.{Stands, nth_item}
-use Rattle.std.specs.Prelude.{None, Some}
 use Rattle.entries.specs.declared.Span.{Span}
 use Rattle.entries.proofs.Standing.{stands_at, stands-part, item-content}
 use Rattle.meaning.specs.Meaning.{Step}
@@ -29,5 +24,5 @@ module _ {s : List ℕ} {at from : ℕ} (x : Step) (q : from ≡ at + 6) (w : le
         value = stands_at (sym p.next) (value-part x st);
       }
 
-  pub step-lost : {X : Type 0} → None ≡ nth_item s from 2 → X
-  step-lost e = no_part x st w 2 (omega arith) (e ∙ ap (λ (k : ℕ). nth_item s k 2) q)
+  pub step_lost : {X : Type 0} → None ≡ nth_item s from 2 → X
+  step_lost e = no_part x st w 2 (omega arith) (e ∙ ap (λ (k : ℕ). nth_item s k 2) q)

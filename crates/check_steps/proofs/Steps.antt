@@ -1,13 +1,5 @@
 -- The steps of a record, one by one. Assumes nothing.
-use mathlib.Core.Path.{◌≡◌, refl, sym, ap, ◌∙◌}
-use Prim.Native.Nat.{ℕ, suc, ◌+◌, ◌≤◌, ◌<◌}
-use native.Mathlib.Omega.{arith}
-use mathlib.Core.List.{List, [], ◌∷◌}
-use mathlib.Core.Bool.{Bool, true, false}
-use lib.ListN.{length, drop, get_or, drop_of_length-le}
-use lib.Seq.{drop-cons, drop-drop}
-use lib.Dec.{ltb}
-use borrow.Author.Tests.{ltb-true, ltb-false}
+use Rattle.std.proofs.Common.{◌≡◌, refl, sym, ap, ◌∙◌, ℕ, suc, ◌+◌, ◌≤◌, ◌<◌, Bool, true, false, ltb, List, [], ◌∷◌, length, drop, get_or, arith, drop-cons, drop-drop, drop_of_length-le, ltb-false, ltb-true}
 use Rattle.std.proofs.lemmas.List.{get_or_past}
 use Rattle.refusal.specs.Base.{good, refused, ◌>>=◌, ◌>>◌, ensure, bytes, same}
 use Rattle.step_lines.specs.StepLines.{head_line, tail_lines}
@@ -34,9 +26,9 @@ module _ (ns : List (List ℕ)) (line step : ℕ) (x : Step) where
 
 -- ---- lines
 
-pub line-is : (lines : List ℕ) (i : ℕ) → get_or lines i 0 ≡ head_line (drop i lines)
+pub line_is : (lines : List ℕ) (i : ℕ) → get_or lines i 0 ≡ head_line (drop i lines)
 unfolding head_line
-line-is lines i = go (ltb i (length lines)) refl
+line_is lines i = go (ltb i (length lines)) refl
   where
     go : (t : Bool) → ltb i (length lines) ≡ t → get_or lines i 0 ≡ head_line (drop i lines)
     go true e = let h : i < length lines = ltb-true _ _ e in sym (rw (drop-cons lines i 0))

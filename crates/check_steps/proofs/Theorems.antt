@@ -1,9 +1,6 @@
 -- What the check of steps is for: it says of a record what document 01 says of the steps of the meaning that it is the record of. Assumes
 -- nothing.
-use mathlib.Core.Path.{◌≡◌}
-use Prim.Native.Nat.{ℕ}
-use mathlib.Core.List.{List}
-use lib.ListN.{length}
+use Rattle.std.proofs.Common.{◌≡◌, ℕ, List, length}
 use Rattle.refusal.specs.Base.{good, ◌>>=◌, ◌>>◌, given}
 use Rattle.meaning.specs.Meaning.{Meaning}
 use Rattle.meaning.specs.Rules.{IsRecord}

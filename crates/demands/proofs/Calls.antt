@@ -1,11 +1,6 @@
 -- From what the jobs promise to what the demands say. Assumes nothing.
-use mathlib.Core.Path.{◌≡◌, refl, sym, ap, ◌∙◌, subst}
-use Prim.Native.Nat.{ℕ}
-use mathlib.Core.List.{List}
-use mathlib.Core.Bool.{Bool, true, false, false≢true}
-use mathlib.Core.Logic.{inl, inr}
-use lib.ListN.{length, take}
-use borrow.Author.Tests.{eq-eqb}
+use Rattle.std.proofs.Common.{◌≡◌, refl, sym, ap, arith, ◌≤◌, ◌∙◌, subst, ℕ, List, Bool, true, false, inl, inr, length, take, length-take-le, eq-eqb}
+use Rattle.std.proofs.lemmas.Bool.{false≢true}
 use Rattle.refusal.specs.Base.{Answer, good, refused, same}
 use Rattle.refusal.specs.Told.{told, told_of, refusal}
 use Rattle.refusal.specs.declared.Told.{Told}
@@ -54,35 +49,47 @@ module _ (text work new : List ℕ) where
 
 -- ---- a scenario
 
-module _ (text work room places : List ℕ) {tree bytes lines : List ℕ} where
-  pub scenario_told : (r : ScenarioAnswer) → answer_of r ≡ sizes_of (scenario_of work room places text) → tree ≡ output tree_bytes (scenario_of work room places text) work
-      → bytes ≡ output record_bytes (scenario_of work room places text) room → lines ≡ output step_numbers (scenario_of work room places text) places
-      → ScenarioEnds text work tree room bytes places lines r
-  scenario_told r a t b l = ends text work tree room bytes places lines r (record { answer = a; tree_left = t; record_left = b; lines_left = l })
+pub scenario_told : (text work room places : List ℕ) {tree bytes lines : List ℕ} (r : ScenarioAnswer) → answer_of r ≡ sizes_of (scenario_of work room places text)
+    → tree ≡ output tree_bytes (scenario_of work room places text) work → bytes ≡ output record_bytes (scenario_of work room places text) room
+    → lines ≡ output step_numbers (scenario_of work room places text) places → ScenarioEnds text work tree room bytes places lines r
+scenario_told text work room places r a t b l = ends text work _ room _ places _ r (record { answer = a; tree_left = t; record_left = b; lines_left = l })
 
-  -- of what `read_scenario` ensures, clause by clause
-  module _ (r : ScenarioAnswer) (p : record {
-    answer : answer_of r ≡ sizes_of (scenario_of work room places text);
-    tree : tree ≡ output tree_bytes (scenario_of work room places text) work;
-    bytes : bytes ≡ output record_bytes (scenario_of work room places text) room;
-    numbers : lines ≡ output step_numbers (scenario_of work room places text) places;
-  }) where
-    pub accepted-as : {t b l n : ℕ} → r ≡ Read t b l n → ScenarioTold text work tree room bytes places lines t b l n
-    accepted-as e = subst (ScenarioEnds text work tree room bytes places lines) e (scenario_told r p.answer p.tree p.bytes p.numbers)
+-- of what `read_scenario` ensures, clause by clause
+module _ (text work room places : List ℕ) {tree bytes lines : List ℕ} {r : ScenarioAnswer} (p : record {
+  answer : answer_of r ≡ sizes_of (scenario_of work room places text);
+  tree : tree ≡ output tree_bytes (scenario_of work room places text) work;
+  bytes : bytes ≡ output record_bytes (scenario_of work room places text) room;
+  numbers : lines ≡ output step_numbers (scenario_of work room places text) places;
+}) where
+  module _ {e : Refusal} (is : r ≡ Refused e) where
+    abbrev left-by : ScenarioLeft text work tree room bytes places lines e
+    left-by = subst (ScenarioEnds text work tree room bytes places lines) is (scenario_told text work room places r p.answer p.tree p.bytes p.numbers)
 
-    pub refused_as : {e : Refusal} → r ≡ Refused e → ScenarioLeft text work tree room bytes places lines e
-    refused_as e = subst (ScenarioEnds text work tree room bytes places lines) e (scenario_told r p.answer p.tree p.bytes p.numbers)
+    pub refused-record : scenario_of work room places text ≡ refusal e
+    refused-record = left-by.is
 
-module _ {text work tree room bytes places lines : List ℕ} where
-  pub tells-refusal : {e : Refusal} {t : Told} → ScenarioLeft text work tree room bytes places lines e → t ≡ told_of e → TellsRefusal (scenario_of work room places text) work tree room bytes places lines t
-  tells-refusal w q = rw w.is (q, w.tree_zeros, w.record_zeros, w.lines_zeros)
+    pub tells-refusal : {t : Told} → t ≡ told_of e → TellsRefusal (scenario_of work room places text) work tree room bytes places lines t
+    tells-refusal q = rw left-by.is (q, left-by.tree_zeros, left-by.record_zeros, left-by.lines_zeros)
 
-  pub tells-nothing : {t b l n : ℕ} → ScenarioTold text work tree room bytes places lines t b l n → TellsRefusal (scenario_of work room places text) work tree room bytes places lines (told 0 0 0)
-  tells-nothing w = rw w.is refl
+  module _ {t b l n : ℕ} (is : r ≡ Read t b l n) where
+    abbrev told-by : ScenarioTold text work tree room bytes places lines t b l n
+    told-by = subst (ScenarioEnds text work tree room bytes places lines) is (scenario_told text work room places r p.answer p.tree p.bytes p.numbers)
 
-  pub told-good : {t b l n : ℕ} → ScenarioTold text work tree room bytes places lines t b l n → is_good (take b bytes) n ≡ true
-  unfolding is_good good_with
-  told-good {n = n} w = rw (told-check w) (eq-eqb n n refl)
+    pub own-record : IsRead text work room places (take b bytes)
+    own-record = record { read = told-by.read; is = told-by.is; bytes = told-by.record_is }
+
+    pub tells-nothing : TellsRefusal (scenario_of work room places text) work tree room bytes places lines (told 0 0 0)
+    tells-nothing = rw told-by.is refl
+
+    pub record-fits : length bytes ≡ length room → b ≤ length bytes
+    record-fits h = omega (arith, told-by.record_fits, h)
+
+    pub record-long : length bytes ≡ length room → b ≡ length (take b bytes)
+    record-long h = sym (length-take-le b bytes (record-fits h))
+
+    pub told-good : is_good (take b bytes) n ≡ true
+    unfolding is_good good_with
+    told-good = rw (told-check told-by) (eq-eqb n n refl)
 
 -- ---- the records of texts
 

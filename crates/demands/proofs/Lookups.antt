@@ -1,14 +1,6 @@
 -- What the two lookups find in a good record. Assumes nothing.
-use mathlib.Core.Path.{◌≡◌, refl, sym, ap, ◌∙◌}
-use Prim.Native.Nat.{ℕ, zero, suc, ◌+◌, ◌-◌, ◌≤◌, ◌<◌}
-use native.Mathlib.Omega.{arith}
-use mathlib.Core.List.{List, []}
-use mathlib.Core.Logic.{◌⊎◌, inl, inr}
-use denote.Ref.{Bor}
-use mathlib.Core.Bool.{Bool, true, false}
-use lib.Dec.{leb}
-use lib.ListN.{length, take, get_or, get_or-eq_default, length-append, length-drop}
-use borrow.Author.Tests.{leb-true, leb-false}
+use Rattle.std.proofs.Common.{◌≡◌, refl, sym, ap, ◌∙◌, ℕ, zero, suc, ◌+◌, ◌-◌, ◌≤◌, ◌<◌, arith, List, [], ◌⊎◌, inl, inr, Bor, Bool, true, false, leb, length, take, get_or, length-append, length-drop, leb-true, leb-false}
+use Rattle.std.proofs.Math.ListN.{get_or-eq_default}
 use Rattle.refusal.specs.Base.{Answer, good, refused}
 use Rattle.item.proofs.Size.{item-length}
 use Rattle.meaning.specs.Meaning.{Meaning}
@@ -23,6 +15,10 @@ use Rattle.demands.specs.Demands.{nth, step_items, ItemShown, out_of_range}
 use Rattle.demands.specs.Records.{GoodRecord}
 use Rattle.demands.specs.Contract.{LooksUp, Parts}
 use Rattle.demands.proofs.Records.{good-record}
+
+-- what the code's own lookup answers
+pub itself : {lookup : List ℕ → ℕ → Answer Found} → LooksUp (λ b number found. lookup_of found ≡ lookup b.now number) lookup
+itself = record { is = λ _ _ _ a. a }
 
 -- ---- what is shown
 

@@ -1,18 +1,13 @@
 -- Of any bytes: the check is good with a count exactly if one and only one meaning has them as its record, and else 40 is answered. Assumes nothing.
-use mathlib.Core.Path.{◌≡◌, refl, sym, ap, ◌∙◌}
-use Prim.Native.Nat.{ℕ, ◌<◌}
-use native.Mathlib.Omega.{arith}
-use mathlib.Core.List.{List, [], map}
-use mathlib.Core.Option.{Option, none, some, some-injective}
-use lib.ListN.{length, get_or}
-use lib.Seq.{ext_get_or}
+use Rattle.std.proofs.Common.{◌≡◌, refl, sym, ap, ◌∙◌, ℕ, ◌<◌, Fits, w8, arith, List, [], map, length, get_or, ext_get_or}
+use Rattle.std.proofs.Math.Option.{Option, none, some, some-injective}
 use Rattle.refusal.specs.Base.{good, given, ◌>>=◌}
 use Rattle.refusal.proofs.Tools.{refused≢good}
 use Rattle.item.specs.Encode.{item, Bytes}
 use Rattle.meaning.specs.Meaning.{Meaning}
 use Rattle.meaning.specs.Record.{joined, step_item, steps_item, fields, record_of}
 use Rattle.meaning.specs.Rules.{Rules, IsRecord}
-use Rattle.value.proofs.Contents.{bytes_of}
+use Rattle.item.proofs.Exact.{bytes_of}
 use Rattle.record.specs.Read.{meaning_in}
 use Rattle.record.specs.Jobs.{check_record, opened, field, step, answer_of}
 use Rattle.record.specs.declared.RecordAnswer.{RecordAnswer}
@@ -70,8 +65,8 @@ record_told b small (Refused e) p =
     let none : (m : Meaning) → IsRecord b m → ⊥ = λ m w. refused≢good _ _ _ _ (p ∙ d.accepts m w) in
     (p ∙ d.refuses none, no_record b (bytes_of b small) none)
 
-pub good-as : (b : List ℕ) → ((i : ℕ) → get_or b i 0 < 256) → {r : RecordAnswer} {n : ℕ} → r ≡ Good n → answer_of r ≡ check_record b → GoodRecord b n
-good-as b small {n = n} e p = good-only b (bytes_of b small) n (sym (ap answer_of (sym e) ∙ p))
+pub good-as : (b : List ℕ) → ((i : ℕ) → Fits w8 (get_or b i 0)) → {r : RecordAnswer} {n : ℕ} → r ≡ Good n → answer_of r ≡ check_record b → GoodRecord b n
+good-as b small {n = n} e p = good-only b (bytes_of b (λ i. omega (arith, small i))) n (sym (ap answer_of (sym e) ∙ p))
 
 -- seven fields by place and the steps by number tell the whole meaning
 module _ (m m' : Meaning) (k : Rules m) (k' : Rules m') (places : (i : ℕ) → i < 7 → get_or (fields m) i [] ≡ get_or (fields m') i [])

@@ -1,7 +1,7 @@
 -- Section 5 of document 01, for the contracts inside the crate: the record of a text as it is handed on, and what a lookup that is handed
 -- on finds. Uses Base and Told of `refusal`; Record of `meaning`; Jobs of `record`; Scenario of `scenario`. Assumes nothing.
 use Rattle.std.specs.Prelude.{◌≡◌, ℕ, ◌+◌, List, length, Result, Ok, Err}
-use denote.Ref.{Bor}
+use Rattle.std.proofs.Common.{Bor}
 use Rattle.refusal.specs.Base.{Answer, good}
 use Rattle.refusal.specs.Told.{refusal}
 use Rattle.refusal.specs.declared.Refusal.{Refusal}

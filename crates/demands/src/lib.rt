@@ -22,7 +22,7 @@ use refusal::{Refusal, Told};
 use scenario::{ScenarioAnswer, read_scenario};
 use tree::{TreeAnswer, read_tree};
 
-// What comparing the records of two texts answers; neither where one of them was refused.
+/// What comparing the records of two texts answers; neither where one of them was refused.
 #[derive(Clone, Copy, Debug, PartialEq, Eq)]
 pub enum Compared {
     Same,
@@ -30,7 +30,7 @@ pub enum Compared {
     Neither,
 }
 
-// Every reading of a tree ends in one of two ways.
+/// Every reading of a tree ends in one of two ways.
 #[tactic(auto, using(crate::proofs::Calls::tree_told))]
 pub fn tree_ends(text: &[u8], work: &mut [u8]) -> TreeAnswer
     ensures { TreeEnds text.now work.old work.new result }
@@ -38,7 +38,7 @@ pub fn tree_ends(text: &[u8], work: &mut [u8]) -> TreeAnswer
     read_tree(text, work)
 }
 
-// So does every reading of a scenario.
+/// Every reading of a scenario ends in one of two ways.
 #[tactic(auto, using(crate::proofs::Calls::scenario_told))]
 pub fn scenario_ends(
     text: &[u8],
@@ -52,7 +52,7 @@ pub fn scenario_ends(
     read_scenario(text, work, record, lines)
 }
 
-// And every check of a record.
+/// Every check of a record ends in one of two ways.
 #[tactic(auto, using(crate::proofs::Records::record_told))]
 pub fn record_ends(record: &[u8]) -> RecordAnswer
     ensures { RecordEnds «record».now result }
@@ -60,7 +60,7 @@ pub fn record_ends(record: &[u8]) -> RecordAnswer
     check_record(record)
 }
 
-// What a refusal tells; nothing of a text that is read.
+/// What a refusal tells; nothing of a text that is read.
 pub fn told(text: &[u8], work: &mut [u8], record: &mut [u8], lines: &mut [u32]) -> Told
     ensures { TellsRefusal (scenario_of work.old «record».old lines.old text.now)
         work.old work.new «record».old «record».new lines.old lines.new
@@ -87,7 +87,7 @@ fn is_good(record: &[u8], steps: usize) -> bool
     }
 }
 
-// Whether the record of a text that is read is good, with as many steps as were told.
+/// Whether the record of a text that is read is good, with as many steps as were told.
 pub fn reads_good_records(
     text: &[u8],
     work: &mut [u8],
@@ -121,7 +121,7 @@ fn record_of<'a>(
     }
 }
 
-// Two texts are read into buffers of their own, and their records compared.
+/// Reads two texts into buffers of their own and compares their records.
 pub fn compare_texts(
     text: &[u8],
     work: &mut [u8],
@@ -157,7 +157,7 @@ fn is_lack(e: Refusal) -> bool
     matches!(e.told().number, 50..=52)
 }
 
-// Whether one text that is read with one lending is read alike with any other, or too little is lent.
+/// Whether one text that is read with one lending is read alike with any other, or too little is lent.
 pub fn reads_alike(
     text: &[u8],
     work: &mut [u8],
@@ -191,21 +191,22 @@ fn item_of<L: Fn(&[u8], usize) -> Lookup>(record: &[u8], find: L, number: usize)
     }
 }
 
-// The item that a place finds.
+/// The item that a place finds.
 pub fn field_item(record: &[u8], place: usize) -> &[u8]
     ensures { ItemShown jobs.field fields «record».now place result.now }
 {
     item_of(record, field, place)
 }
 
-// The item that a step's number finds.
+/// The item that a step's number finds.
 pub fn step_item(record: &[u8], number: usize) -> &[u8]
     ensures { ItemShown jobs.step step_items «record».now number result.now }
 {
     item_of(record, step, number)
 }
 
-// The item that a place finds in the record of a text. This and `text_step` are short enough to stand side by side.
+/// The item that a place finds in the record of a text.
+// This and `text_step` are short enough to stand side by side.
 pub fn text_field<'a>(
     text: &[u8],
     work: &mut [u8],
@@ -222,7 +223,7 @@ pub fn text_field<'a>(
     }
 }
 
-// The item that a step's number finds there.
+/// The item that a step's number finds in the record of a text.
 pub fn text_step<'a>(
     text: &[u8],
     work: &mut [u8],
@@ -264,7 +265,7 @@ fn refuses_others<L: Fn(&[u8], usize) -> Lookup>(
     true
 }
 
-// Whether every place but 1 to 8 is refused so in a good record.
+/// Whether a good record has every place but 1 to 8 refused with 53.
 pub fn refuses_other_places(record: &[u8], place: usize) -> bool
     ensures { result ≡ true }
 {
@@ -274,7 +275,7 @@ pub fn refuses_other_places(record: &[u8], place: usize) -> bool
     }
 }
 
-// And every step number but 1 to how many there are.
+/// Whether a good record has every step number refused with 53 but 1 to how many there are.
 pub fn refuses_other_numbers(record: &[u8], number: usize) -> bool
     ensures { result ≡ true }
 {
@@ -303,7 +304,7 @@ fn fill<L: Fn(&[u8], usize) -> Lookup>(record: &[u8], find: L, count: usize, fir
     at == record.len()
 }
 
-// Whether a good record is nothing but its fields, and the last of them nothing but its steps.
+/// Whether a good record is nothing but its fields, and the last of them nothing but its steps.
 pub fn lookups_fill(record: &[u8]) -> bool
     ensures { result ≡ true }
 {

@@ -1,10 +1,6 @@
 -- Numbers stored one by one are told as far as there are places; and what a share's answer tells. Assumes nothing.
-use mathlib.Core.Path.{◌≡◌, refl, ap}
-use Prim.Native.Nat.{ℕ, zero, suc, ◌<◌}
-use native.Mathlib.Omega.{arith}
-use mathlib.Core.List.{List, [], ◌∷◌}
-use lib.ListN.{set, length, take, get_or}
-use lib.Seq.{take-nil}
+use Rattle.std.proofs.Common.{◌≡◌, refl, ap, ℕ, zero, suc, ◌<◌, arith, List, [], ◌∷◌, set, length, take, get_or}
+use Rattle.std.proofs.Math.Seq.{take-nil}
 use Rattle.refusal.specs.Base.{Answer}
 use Rattle.share.specs.Share.{answer_of}
 use Rattle.share.specs.declared.ShareAnswer.{ShareAnswer}

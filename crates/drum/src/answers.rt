@@ -28,7 +28,7 @@ enum State {
     Nothing = 2,
 }
 
-// The answer of a job, which is told in five numbers.
+/// The answer of a job, which is told in five numbers.
 pub trait Answer {
     ghost as_told: { Self → List ℕ };
 

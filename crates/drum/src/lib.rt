@@ -20,7 +20,7 @@ use answers::Answer;
 use share::Shares;
 
 // Stores numbers as far as there are places for them.
-// By index, since what is written through `iter_mut` is not known afterwards.
+// By index, since what is written through `iter_mut` beside a second iterator is not known afterwards.
 fn store(answer: &mut [u64], numbers: [u64; 5])
     ensures { answer.new ≡ told numbers answer.old }
 {
@@ -41,7 +41,7 @@ fn tell<A: Answer>(outcome: A, answer: &mut [u64]) -> u32
     numbers[0] as u32
 }
 
-// The tree of a text: its bytes.
+/// The tree of a text: its bytes.
 pub fn drum_read_tree(text: &[u8], work: &mut [u8], answer: &mut [u64]) -> u32
     ensures result { result ≡ first_of (numbers of_one (size_of (tree (length work.old) text.now))) }
     ensures answer { answer.new ≡ told (numbers of_one (size_of (tree (length work.old) text.now)))
@@ -51,7 +51,7 @@ pub fn drum_read_tree(text: &[u8], work: &mut [u8], answer: &mut [u64]) -> u32
     tell(tree::read_tree(text, work), answer)
 }
 
-// The scenario of a text: the bytes of its tree, of its record and of its step lines, and how many steps there are.
+/// The scenario of a text: the bytes of its tree, of its record and of its step lines, and how many steps there are.
 pub fn drum_read_scenario(
     text: &[u8],
     work: &mut [u8],
@@ -73,7 +73,7 @@ pub fn drum_read_scenario(
     tell(scenario::read_scenario(text, work, record, lines), answer)
 }
 
-// Whether the bytes are a record: its steps.
+/// Whether the bytes are a record: how many steps it has.
 pub fn drum_check_record(record: &[u8], answer: &mut [u64]) -> u32
     ensures result { result ≡ first_of (numbers of_one (definition.check_record «record».now)) }
     ensures answer { answer.new ≡ told (numbers of_one (definition.check_record «record».now))
@@ -82,8 +82,8 @@ pub fn drum_check_record(record: &[u8], answer: &mut [u64]) -> u32
     tell(record::check_record(record), answer)
 }
 
-// Whether the drum has the commands of a record's steps; `names` is a list of those that are not built in. A step beyond the lines has
-// none. The record's steps.
+/// Whether the drum has the commands of a record's steps; `names` is a list of those that are not built in. A step beyond the lines has
+/// none. It tells how many steps the record has.
 pub fn drum_check_steps(record: &[u8], lines: &[u32], names: &[u8], answer: &mut [u64]) -> u32
     ensures result { result ≡ first_of (numbers of_one (check_steps «record».now lines.now
         names.now)) }
@@ -93,7 +93,7 @@ pub fn drum_check_steps(record: &[u8], lines: &[u32], names: &[u8], answer: &mut
     tell(check_steps::check_steps(record, lines, names), answer)
 }
 
-// The field at this place, from 1 to 8: where its item begins and ends in the record.
+/// The field at this place, from 1 to 8: where its item begins and ends in the record.
 pub fn drum_field(record: &[u8], place: usize, answer: &mut [u64]) -> u32
     ensures result { result ≡ first_of (numbers of_found (definition.field «record».now place)) }
     ensures answer { answer.new ≡ told (numbers of_found (definition.field «record».now place))
@@ -102,7 +102,7 @@ pub fn drum_field(record: &[u8], place: usize, answer: &mut [u64]) -> u32
     tell(record::field(record, place), answer)
 }
 
-// The step with this number, from 1 on: likewise.
+/// The step with this number, from 1 on: where its item begins and ends in the record.
 pub fn drum_step(record: &[u8], number: usize, answer: &mut [u64]) -> u32
     ensures result { result ≡ first_of (numbers of_found (definition.step «record».now number)) }
     ensures answer { answer.new ≡ told (numbers of_found (definition.step «record».now number))
@@ -111,7 +111,7 @@ pub fn drum_step(record: &[u8], number: usize, answer: &mut [u64]) -> u32
     tell(record::step(record, number), answer)
 }
 
-// The first step with this id: likewise.
+/// The first step with this id: where its item begins and ends in the record.
 pub fn drum_step_by_id(record: &[u8], id: &[u8], answer: &mut [u64]) -> u32
     ensures result { result ≡ first_of (numbers of_found (lookup.step_by_id «record».now id.now)) }
     ensures answer { answer.new ≡ told (numbers of_found (lookup.step_by_id «record».now id.now))
@@ -120,7 +120,7 @@ pub fn drum_step_by_id(record: &[u8], id: &[u8], answer: &mut [u64]) -> u32
     tell(lookups::step_by_id(record, id), answer)
 }
 
-// The value beside a key, in the mapping beside the command of the step with this number: likewise.
+/// The value beside a key, in the mapping beside the command of the step with this number: where its item begins and ends in the record.
 pub fn drum_value_by_key(record: &[u8], number: usize, key: &[u8], answer: &mut [u64]) -> u32
     ensures result { result ≡ first_of (numbers of_found (lookup.value_by_key «record».now number key.now)) }
     ensures answer { answer.new ≡ told (numbers of_found (lookup.value_by_key «record».now number
@@ -129,7 +129,7 @@ pub fn drum_value_by_key(record: &[u8], number: usize, key: &[u8], answer: &mut 
     tell(lookups::value_by_key(record, number, key), answer)
 }
 
-// How often the step with this number is repeated.
+/// How often the step with this number is repeated.
 pub fn drum_times(record: &[u8], number: usize, answer: &mut [u64]) -> u32
     ensures result { result ≡ first_of (numbers of_one (lookup.times «record».now number)) }
     ensures answer { answer.new ≡ told (numbers of_one (lookup.times «record».now number))
@@ -138,7 +138,7 @@ pub fn drum_times(record: &[u8], number: usize, answer: &mut [u64]) -> u32
     tell(lookups::times(record, number), answer)
 }
 
-// What each of several drums on one supply gets in a beat, eight numbers in their order; the answer has no numbers.
+/// What each of several drums on one supply gets in a beat, eight numbers in their order; the answer has no numbers.
 pub fn drum_share(wishes: &[u32], allowed: u32, strokes: &mut [u32; 8], answer: &mut [u64]) -> u32
     ensures result { result ≡ first_of (numbers of_none (shared.share wishes.now allowed)) }
     ensures answer { answer.new ≡ told (numbers of_none (shared.share wishes.now allowed))
@@ -153,7 +153,7 @@ pub fn drum_share(wishes: &[u32], allowed: u32, strokes: &mut [u32; 8], answer: 
     tell(outcome, answer)
 }
 
-// A hammer log against a microphone log: how many pairs, lone hammers and lone sounds there are.
+/// A hammer log against a microphone log: how many pairs, lone hammers and lone sounds there are.
 pub fn drum_pair_logs(
     hammers: &[u32],
     sounds: &[u32],

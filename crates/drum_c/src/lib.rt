@@ -1,4 +1,5 @@
-// The jobs for programs in C and Rust: each export calls the function of `drum` with its name, and states its clauses again. What is lent
+// The jobs for programs in C and Rust. A name for C is a function of the crate that is linked, so each calls the function of `drum` with its
+// name, and states its clauses again. What is lent
 // comes as a pointer and a length, but for the eight numbers of a share. include/drum.h says this to C.
 #![tactic(auto)]
 
@@ -14,7 +15,7 @@ ghost use Rattle.share.specs.Share as shared;
 ghost use Rattle.share.specs.Share.{numbers_of};
 ghost use Rattle.drum.specs.Numbers.{numbers, of_none, of_one, of_three, of_four, of_found, first_of, told};
 
-// The tree of a text: its bytes.
+/// The tree of a text: its bytes.
 #[unsafe(no_mangle)]
 pub extern "C" fn drum_read_tree(text: &[u8], work: &mut [u8], answer: &mut [u64]) -> u32
     ensures result { result ≡ first_of (numbers of_one (size_of (tree (length work.old) text.now))) }
@@ -25,7 +26,7 @@ pub extern "C" fn drum_read_tree(text: &[u8], work: &mut [u8], answer: &mut [u64
     drum::drum_read_tree(text, work, answer)
 }
 
-// The scenario of a text: the bytes of its tree, of its record and of its step lines, and how many steps there are.
+/// The scenario of a text: the bytes of its tree, of its record and of its step lines, and how many steps there are.
 #[unsafe(no_mangle)]
 pub extern "C" fn drum_read_scenario(
     text: &[u8],
@@ -48,7 +49,7 @@ pub extern "C" fn drum_read_scenario(
     drum::drum_read_scenario(text, work, record, lines, answer)
 }
 
-// Whether the bytes are a record: its steps.
+/// Whether the bytes are a record: how many steps it has.
 #[unsafe(no_mangle)]
 pub extern "C" fn drum_check_record(record: &[u8], answer: &mut [u64]) -> u32
     ensures result { result ≡ first_of (numbers of_one (definition.check_record «record».now)) }
@@ -58,8 +59,8 @@ pub extern "C" fn drum_check_record(record: &[u8], answer: &mut [u64]) -> u32
     drum::drum_check_record(record, answer)
 }
 
-// Whether the drum has the commands of a record's steps; `names` is a list of those that are not built in. A step beyond the lines has
-// none. The record's steps.
+/// Whether the drum has the commands of a record's steps; `names` is a list of those that are not built in. A step beyond the lines has
+/// none. It tells how many steps the record has.
 #[unsafe(no_mangle)]
 pub extern "C" fn drum_check_steps(
     record: &[u8],
@@ -75,7 +76,7 @@ pub extern "C" fn drum_check_steps(
     drum::drum_check_steps(record, lines, names, answer)
 }
 
-// The field at this place, from 1 to 8: where its item begins and ends in the record.
+/// The field at this place, from 1 to 8: where its item begins and ends in the record.
 #[unsafe(no_mangle)]
 pub extern "C" fn drum_field(record: &[u8], place: usize, answer: &mut [u64]) -> u32
     ensures result { result ≡ first_of (numbers of_found (definition.field «record».now place)) }
@@ -85,7 +86,7 @@ pub extern "C" fn drum_field(record: &[u8], place: usize, answer: &mut [u64]) ->
     drum::drum_field(record, place, answer)
 }
 
-// The step with this number, from 1 on: likewise.
+/// The step with this number, from 1 on: where its item begins and ends in the record.
 #[unsafe(no_mangle)]
 pub extern "C" fn drum_step(record: &[u8], number: usize, answer: &mut [u64]) -> u32
     ensures result { result ≡ first_of (numbers of_found (definition.step «record».now number)) }
@@ -95,7 +96,7 @@ pub extern "C" fn drum_step(record: &[u8], number: usize, answer: &mut [u64]) ->
     drum::drum_step(record, number, answer)
 }
 
-// The first step with this id: likewise.
+/// The first step with this id: where its item begins and ends in the record.
 #[unsafe(no_mangle)]
 pub extern "C" fn drum_step_by_id(record: &[u8], id: &[u8], answer: &mut [u64]) -> u32
     ensures result { result ≡ first_of (numbers of_found (lookup.step_by_id «record».now id.now)) }
@@ -105,7 +106,7 @@ pub extern "C" fn drum_step_by_id(record: &[u8], id: &[u8], answer: &mut [u64]) 
     drum::drum_step_by_id(record, id, answer)
 }
 
-// The value beside a key, in the mapping beside the command of the step with this number: likewise.
+/// The value beside a key, in the mapping beside the command of the step with this number: where its item begins and ends in the record.
 #[unsafe(no_mangle)]
 pub extern "C" fn drum_value_by_key(
     record: &[u8],
@@ -120,7 +121,7 @@ pub extern "C" fn drum_value_by_key(
     drum::drum_value_by_key(record, number, key, answer)
 }
 
-// How often the step with this number is repeated.
+/// How often the step with this number is repeated.
 #[unsafe(no_mangle)]
 pub extern "C" fn drum_times(record: &[u8], number: usize, answer: &mut [u64]) -> u32
     ensures result { result ≡ first_of (numbers of_one (lookup.times «record».now number)) }
@@ -130,7 +131,7 @@ pub extern "C" fn drum_times(record: &[u8], number: usize, answer: &mut [u64]) -
     drum::drum_times(record, number, answer)
 }
 
-// What each of several drums on one supply gets in a beat, eight numbers in their order; the answer has no numbers.
+/// What each of several drums on one supply gets in a beat, eight numbers in their order; the answer has no numbers.
 #[unsafe(no_mangle)]
 pub extern "C" fn drum_share(
     wishes: &[u32],
@@ -146,7 +147,7 @@ pub extern "C" fn drum_share(
     drum::drum_share(wishes, allowed, strokes, answer)
 }
 
-// A hammer log against a microphone log: how many pairs, lone hammers and lone sounds there are.
+/// A hammer log against a microphone log: how many pairs, lone hammers and lone sounds there are.
 #[unsafe(no_mangle)]
 pub extern "C" fn drum_pair_logs(
     hammers: &[u32],

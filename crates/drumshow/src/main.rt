@@ -21,22 +21,6 @@ fn print_indent(out: &mut impl Write, deep: usize) -> io::Result<()> {
     Ok(())
 }
 
-fn kind_of(number: usize) -> Option<Kind> {
-    match number {
-        0 => Some(Kind::Null),
-        1 => Some(Kind::Bool),
-        2 => Some(Kind::Int),
-        3 => Some(Kind::Str),
-        4 => Some(Kind::Seq),
-        5 => Some(Kind::Map),
-        16 => Some(Kind::Scenario),
-        17 => Some(Kind::Defaults),
-        18 => Some(Kind::Steps),
-        19 => Some(Kind::Step),
-        _ => None,
-    }
-}
-
 // The items that stand in one of this kind. In a mapping every second one is a key, and stands in the line of its value.
 fn print_items(out: &mut impl Write, holder: Kind, content: &[u8], deep: usize) -> io::Result<()> {
     if deep >= DEEPEST {
@@ -46,7 +30,7 @@ fn print_items(out: &mut impl Write, holder: Kind, content: &[u8], deep: usize) 
         let Ok(item) = item else {
             return Ok(());
         };
-        let Some(kind) = kind_of(item.kind) else {
+        let Ok(kind) = Kind::try_from(item.kind) else {
             return Ok(());
         };
         let content = part(content, item.from, item.to);

@@ -1,16 +1,10 @@
 -- Bits that were put into words stay there. Assumes nothing.
-use mathlib.Core.Path.{◌≡◌, refl, sym, ap, ◌∙◌}
-use Prim.Native.Nat.{ℕ, ◌+◌, ◌*◌, ◌/◌, ◌%◌, ◌≤◌, min, max}
-use native.Mathlib.Omega.{arith}
-use mathlib.Core.List.{List}
-use mathlib.Core.Bool.{Bool, true, false, false≢true}
-use native.Mathlib.Nat.{min-le_left, min-le_right, le-max_left, min-eq_right, max-le}
-use lib.Arith.{bin_ind}
-use lib.Bits.{bit_and, bit_or, and_step, or_step, and_zero_r, or_comm, and_self}
-use lib.Dec.{eqb}
-use lib.ListN.{length, get_or, set, length-set}
-use lib.Seq.{get_or-set_same, get_or-set_other}
-use borrow.Author.Tests.{eq-eqb, eqb-true, eqb-false}
+use Rattle.std.proofs.Common.{◌≡◌, refl, sym, ap, ◌∙◌, ℕ, ◌+◌, ◌*◌, ◌/◌, ◌%◌, ◌≤◌, min, max, arith, List, Bool, true, false, bit_and, bit_or, eqb, length, get_or, set, length-set, get_or-set_same, get_or-set_other, eq-eqb, eqb-true}
+use Rattle.std.proofs.lemmas.Bool.{false≢true, eqb-false}
+use Rattle.std.proofs.lemmas.Nat.{or_comm}
+use Rattle.std.proofs.Math.Nat.{min-le_left, min-le_right, le-max_left, min-eq_right, max-le}
+use Rattle.std.proofs.Math.Arith.{bin_ind}
+use lib.Bits.{and_step, or_step, and_zero_r, and_self}
 use Rattle.entries.specs.Contract.{bits_of, Has, Marked}
 
 pub and_kept : (m x y : ℕ) → bit_and x m ≡ m → bit_and (bit_or x y) m ≡ m

@@ -1,9 +1,5 @@
 -- The n-th item, by the headers before it. Assumes nothing.
-use mathlib.Core.Path.{◌≡◌, refl, ap}
-use Prim.Native.Nat.{ℕ, zero, suc, ◌+◌, ◌≤◌}
-use native.Mathlib.Omega.{arith}
-use mathlib.Core.List.{List}
-use lib.ListN.{length}
+use Rattle.std.proofs.Common.{◌≡◌, refl, ap, ℕ, zero, suc, ◌+◌, ◌≤◌, arith, List, length}
 use Rattle.std.specs.Prelude.{None, Some, Result, Ok, Err}
 use Rattle.item.specs.Places.{header_at}
 use Rattle.item.specs.declared.Item.{Item}
@@ -43,10 +39,10 @@ module _ (s : List ℕ) (at : ℕ) {span : Span} (e : Some span ≡ span_at at (
 
 -- ---- the n-th
 
-pub nth-lost : (s : List ℕ) (at : ℕ) → None ≡ span_at at (header_at s at) → (skip : ℕ) → None ≡ nth_item s at skip
+pub nth_lost : (s : List ℕ) (at : ℕ) → None ≡ span_at at (header_at s at) → (skip : ℕ) → None ≡ nth_item s at skip
 unfolding nth_item span_at behind
-nth-lost s at h zero = h
-nth-lost s at h (suc skip) = go (header_at s at) h
+nth_lost s at h zero = h
+nth_lost s at h (suc skip) = go (header_at s at) h
   where
     go : (r : Result Item Broken) → None ≡ span_at at r → None ≡ behind r (λ to. nth_item s to skip)
     go (Ok item) e = let z : ◌≡◌ {A = ℕ} 0 1 = cc in absurd (omega arith)

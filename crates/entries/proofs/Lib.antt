@@ -4,5 +4,6 @@ pub mod Walking
 pub mod Counting
 pub mod Bits
 pub mod Twice
+pub mod Parts
 pub mod Runs
 pub mod Chunks

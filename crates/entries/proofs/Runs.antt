@@ -1,26 +1,13 @@
 -- Runs of keys in their order: the search for a key, and a key put in at its index. Assumes nothing.
-use mathlib.Core.Path.{◌≡◌, refl, sym, ap, ◌∙◌, subst}
-use mathlib.Core.Logic.{⊎_elim}
-use Prim.Native.Nat.{ℕ, ◌+◌, ◌-◌, ◌^◌, ◌≤◌, ◌<◌}
-use native.Mathlib.Omega.{arith}
-use mathlib.Core.List.{List}
-use borrow.Author.Tests.{le-leb}
-use lib.ListN.{length, take, drop, get_or, set, length-set}
-use lib.Seq.{get_or-set_same, get_or-set_other}
-use Rattle.std.proofs.Common.{Ordering, Less, Equal, Greater}
-use Rattle.std.specs.Ordering.{ordering_reverse, ordering_then, nat_cmp, is_eq, is_ne, is_lt}
+use Rattle.std.proofs.lemmas.Bool.{false≢true}
+use Rattle.std.proofs.Common.{Ordering, Less, Equal, Greater, ◌≡◌, sym, ap, ◌∙◌, subst, ⊎_elim, ℕ, ◌+◌, ◌-◌, ◌^◌, ◌≤◌, ◌<◌, arith, List, le-leb, length, take, drop, get_or}
+use Rattle.std.specs.Ordering.{ordering_reverse, ordering_then, nat_cmp, is_eq}
 use Rattle.std.specs.FinMap.{slice_cmp-IsAntisymmetric, nat_cmp-IsAntisymmetric}
-use Rattle.std.specs.List.Sorted.{IsSortedBy}
-use Rattle.std.proofs.lemmas.List.{get_or-take, get_or_default, length-take-le}
-use Rattle.std.proofs.lemmas.List.Sorted.{searchable_from_sorted}
-use mathlib.Core.Bool.{true, false, false≢true}
 use Rattle.std.specs.Cmp.{IsTotalOrder, nat_cmp_total, on_total, then_total}
 use Rattle.std.specs.Cmp.Lexicographic.{slice_cmp, nat_list_cmp_total}
-use Rattle.std.specs.Prelude.{Result, Ok, Err}
-use Rattle.std.specs.List.Sorted.{IsSearchInRange, IsBinarySearchResult}
 use Rattle.refusal.proofs.Tools.{split}
 use Rattle.entries.specs.declared.sorted.KeyPlace.{KeyPlace}
-use Rattle.entries.specs.Contract.{key_cmp, key_of, blank, key_in, Run, Held, Gap, Located, Inserted}
+use Rattle.entries.specs.Contract.{key_cmp, key_of, blank, key_in, Run, Held, Gap, Inserted}
 
 -- ---- the order
 
@@ -30,17 +17,6 @@ key-order = then_total (on_total length nat_cmp_total) nat_list_cmp_total
 pub below_self : (a : List ℕ) → key_cmp a a ≡ Less → ⊥
 below_self a h = absurd (let z : ◌≡◌ {A = Ordering} Less Greater = sym h ∙ key-order.antisymm a a ∙ ap ordering_reverse h in let y : ◌≡◌ {A = ℕ} 0 1 = cc z in omega arith)
 
--- the lengths decide, or all hangs on the bytes
-pub then-first : (o p : Ordering) → is_ne o ≡ true → o ≡ ordering_then o p
-then-first Less p e = refl
-then-first Equal p e = absurd (false≢true e)
-then-first Greater p e = refl
-
-pub then-second : (o p : Ordering) → is_ne o ≡ false → p ≡ ordering_then o p
-then-second Less p e = absurd (false≢true (sym e))
-then-second Equal p e = refl
-then-second Greater p e = absurd (false≢true (sym e))
-
 -- ---- a key put in
 
 -- places moved up
@@ -48,14 +24,6 @@ pub record Moved (old new : List KeyPlace) (n index : ℕ) : Type 0 where
   pub size : length new ≡ length old
   pub before : (i : ℕ) → i < index → get_or new i blank ≡ get_or old i blank
   pub behind : (i : ℕ) → index ≤ i → i < n → get_or new (i + 1) blank ≡ get_or old i blank
-
-pub inserted : {old new : List KeyPlace} {n index : ℕ} (m : Moved old new n index) → index < length new → (p : KeyPlace) → Inserted old (set new index p) n index p
-inserted {new = new} {index = index} m fits p = record {
-  size = length-set new index p ∙ m.size;
-  before = λ i h. get_or-set_other new index i p blank (λ e. omega arith) ∙ m.before i h;
-  here = get_or-set_same new index p blank fits;
-  behind = λ i h g. get_or-set_other new index (i + 1) p blank (λ e. omega arith) ∙ m.behind i h g;
-}
 
 pub place-key : (s : List ℕ) (place : KeyPlace) → place.end ≤ length s → key_of s place ≡ take (place.end - place.start) (drop place.start s)
 unfolding key_of
@@ -126,28 +94,29 @@ key-same a b e = slice_cmp-IsAntisymmetric nat_cmp-IsAntisymmetric a b (then-equ
 above : (a b : List ℕ) → key_cmp a b ≡ Greater → key_cmp b a ≡ Less
 above a b e = key-order.antisymm b a ∙ ap ordering_reverse e
 
-module _ {s : List ℕ} {run : List KeyPlace} {n : ℕ} (r : Run s run n) (key : List ℕ) where
-  many : length (take n run) ≡ n
-  many = length-take-le n run (omega (arith, r.size, r.few))
+-- the keys before and behind those that are left
+pub record Between (s : List ℕ) (run : List KeyPlace) (n : ℕ) (key : List ℕ) (low high : ℕ) : Type 0 where
+  pub order : low ≤ high
+  pub within : high ≤ n
+  pub before : (i : ℕ) → i < low → key_cmp (key_in s run i) key ≡ Less
+  pub behind : (i : ℕ) → high ≤ i → i < n → key_cmp key (key_in s run i) ≡ Less
 
-  at : (i : ℕ) → i < n → get_or (take n run) i blank ≡ get_or run i blank
-  at i h = get_or-take n run i blank h
+module _ {s : List ℕ} {run : List KeyPlace} {n : ℕ} {key : List ℕ} {low high : ℕ} (b : Between s run n key low high) where
+  module _ (r : Run s run n) (i : ℕ) (after : low ≤ i) (until : i < high) where
+    pub between-same : key_cmp (key_in s run i) key ≡ Equal → Held s run n key
+    between-same e = record { index = i; below = omega (arith, b.within); is = key-same _ key e }
 
-  sorted : IsSortedBy (λ a b. is_lt (key_cmp (key_of s a) (key_of s b))) (take n run)
-  sorted k d low high =
-      let h : k + 1 < n = omega (arith, many) in
-      let first : get_or (take n run) k d ≡ get_or run k blank = get_or_default (take n run) k d blank (omega arith) ∙ at k (omega arith) in
-      let second : get_or (take n run) (k + 1) d ≡ get_or run (k + 1) blank = get_or_default (take n run) (k + 1) d blank high ∙ at (k + 1) h in
-      rw (first, second) (ap is_lt (key-order.antisymm (key_in s run (k + 1)) (key_in s run k) ∙ ap ordering_reverse (r.rising k (k + 1) (omega arith) h)))
+    pub between-right : key_cmp (key_in s run i) key ≡ Less → Between s run n key (i + 1) high
+    between-right l = record { order = omega arith; within = b.within; before = go; behind = b.behind }
+      where
+        go : (j : ℕ) → j < i + 1 → key_cmp (key_in s run j) key ≡ Less
+        go j h = ⊎_elim (λ k. key-order.trans (key_in s run j) (key_in s run i) key (r.rising j i k (omega (arith, b.within))) l) (λ k. let e : j ≡ i = omega arith in rw e l) (split j i)
 
-  pub searched : (found : Result ℕ ℕ) → IsSearchInRange found (length (take n run)) → IsBinarySearchResult (λ p. key_cmp (key_of s p) key) (take n run) found → Located s run n key found
-  searched (Ok index) h g =
-      let l : index < n = omega (arith, h, many) in
-      record { index = index; below = l; is = key-same _ key (subst (λ (p : KeyPlace). key_cmp (key_of s p) key ≡ Equal) (at index l) (g blank)) }
-  searched (Err index) h g =
-      let p = g (searchable_from_sorted key-order (key_of s) (take n run) key sorted) in
-      record {
-        within = omega (arith, h, many);
-        before = λ i l. subst (λ (p : KeyPlace). key_cmp (key_of s p) key ≡ Less) (at i (omega (arith, h, many))) (p.0 i blank (omega arith) l);
-        behind = λ i l m. above _ key (subst (λ (p : KeyPlace). key_cmp (key_of s p) key ≡ Greater) (at i m) (p.1 i blank l (omega (arith, many))));
-      }
+    pub between_left : key_cmp (key_in s run i) key ≡ Greater → Between s run n key low i
+    between_left g = record { order = after; within = omega (arith, b.within); before = b.before; behind = go }
+      where
+        l : key_cmp key (key_in s run i) ≡ Less
+        l = above _ key g
+
+        go : (j : ℕ) → i ≤ j → j < n → key_cmp key (key_in s run j) ≡ Less
+        go j h m = ⊎_elim (λ k. key-order.trans key (key_in s run i) (key_in s run j) l (r.rising i j k m)) (λ k. let e : j ≡ i = omega arith in rw e l) (split i j)

@@ -1,16 +1,7 @@
 -- Keys that stand twice, of one class and of all; a walk along entries that looks for them. Assumes nothing.
-use mathlib.Core.Path.{◌≡◌, refl, sym, ap, ◌∙◌, subst}
-use mathlib.Core.Logic.{◌⊎◌, inl, inr, ⊎_elim}
-use Prim.Native.Nat.{ℕ, ◌+◌, ◌*◌, ◌/◌, ◌%◌, ◌≤◌, ◌<◌, ◌^◌}
-use native.Mathlib.Numerals.{add-one}
-use native.Mathlib.Omega.{arith}
-use mathlib.Core.List.{List, ◌++◌, append_assoc, append-nil}
-use mathlib.Core.Bool.{Bool, true, false, ◌&&◌, ◌||◌, false≢true}
-use lib.Bits.{bit_and, and_le_r}
-use lib.ListN.{length, drop, get_or, length-append, drop_of_length-le}
-use lib.Seq.{drop_at, drop-drop, drop-cons}
-use borrow.Author.Tests.{eq-eqb, eqb-true, eqb-false}
-use lib.Dec.{eqb}
+use Rattle.std.proofs.Common.{◌≡◌, refl, sym, ap, ◌∙◌, subst, ◌⊎◌, inl, inr, ⊎_elim, ℕ, ◌+◌, ◌*◌, ◌/◌, ◌%◌, ◌≤◌, ◌<◌, ◌^◌, add-one, arith, List, ◌++◌, append_assoc, append-nil, Bool, true, false, ◌&&◌, ◌||◌, bit_and, length, drop, get_or, length-append, drop_of_length-le, drop_at, drop-drop, drop-cons, eq-eqb, eqb-true, eqb}
+use Rattle.std.proofs.lemmas.Bool.{false≢true, eqb-false}
+use Rattle.std.proofs.lemmas.Nat.{and_le_r}
 use Rattle.refusal.specs.Base.{same}
 use Rattle.refusal.proofs.Tools.{neither}
 use Rattle.item.specs.Tree.{Yaml, Entries, done, pair, add, has_key}
@@ -26,13 +17,13 @@ use Rattle.entries.proofs.Walking.{Turn, no_more}
 -- ---- the hash
 
 module _ (key : List ℕ) (h i : ℕ) where
-  pub hash-on : i < length key → hash_from h (drop i key) ≡ hash_from ((h + get_or key i 0 + 1) * 16777619 % 2 ^ 32) (drop (i + 1) key)
+  pub hash_on : i < length key → hash_from h (drop i key) ≡ hash_from ((h + get_or key i 0 + 1) * 16777619 % 2 ^ 32) (drop (i + 1) key)
   unfolding hash_from
-  hash-on n = ap (hash_from h) (drop-cons key i 0 n) ∙ ap (λ (j : ℕ). hash_from ((h + get_or key i 0 + 1) * 16777619 % 2 ^ 32) (drop j key)) (sym (add-one i))
+  hash_on n = ap (hash_from h) (drop-cons key i 0 n) ∙ ap (λ (j : ℕ). hash_from ((h + get_or key i 0 + 1) * 16777619 % 2 ^ 32) (drop j key)) (sym (add-one i))
 
-  pub hash-end : length key ≤ i → hash_from h (drop i key) ≡ h
+  pub hash_end : length key ≤ i → hash_from h (drop i key) ≡ h
   unfolding hash_from
-  hash-end n = rw (drop_of_length-le key {i = i} n)
+  hash_end n = rw (drop_of_length-le key {i = i} n)
 
 -- ---- tests
 

@@ -1,10 +1,5 @@
 -- What a value is, by its kind. Assumes nothing.
-use mathlib.Core.Path.{◌≡◌, refl, sym, ◌∙◌}
-use Prim.Native.Nat.{ℕ, ◌+◌}
-use native.Mathlib.Omega.{arith}
-use mathlib.Core.List.{List}
-use mathlib.Core.Bool.{Bool}
-use lib.ListN.{length}
+use Rattle.std.proofs.Common.{◌≡◌, refl, sym, ◌∙◌, ℕ, ◌+◌, arith, List, Bool, length}
 use Rattle.item.specs.Tree.{Yaml, null, bool, int, str, seq, dict, Items, Entries, Ranged}
 use Rattle.item.specs.Encode.{kind_of}
 use Rattle.entries.specs.Entries.{Stands, Holds, content}

@@ -1,12 +1,6 @@
 -- Entries and items from the front, by their places, and the search among them. Assumes nothing.
 use Rattle.std.specs.Prelude.{if◌then◌else◌}
-use mathlib.Core.Path.{◌≡◌, refl, sym, ap, ◌∙◌, subst}
-use Prim.Native.Nat.{ℕ, ◌+◌, ◌-◌, ◌≤◌, ◌<◌, ◌^◌}
-use native.Mathlib.Omega.{arith}
-use mathlib.Core.List.{List, ◌++◌}
-use mathlib.Core.Bool.{Bool, true, false, ◌||◌}
-use mathlib.Core.Option.{none, some, some-injective}
-use lib.ListN.{length, take, drop, length-append, length-take, length-drop, take-append-drop}
+use Rattle.std.proofs.Math.Option.{none, some, some-injective}
 use Rattle.refusal.specs.Base.{same}
 use Rattle.item.specs.Tree.{Yaml, Items, end, ◌▸◌, Entries, done, pair, has_key, get, Ranged}
 use Rattle.item.specs.Encode.{item, encode, kind_of}
@@ -18,11 +12,13 @@ use Rattle.std.specs.Prelude.{None, Some, Result, Ok, Err}
 use Rattle.item.specs.declared.Found.{Found}
 use Rattle.item.specs.declared.Found.TheVariants as found
 use Rattle.item.proofs.Headers.{spans}
+use Rattle.item.proofs.Turns as turns
+use Rattle.item.proofs.Turns.{step_of, stop_of}
+use Rattle.item.specs.Walk.{Gives}
+use Rattle.item.specs.declared.walk.Walk.{Walk}
+use Rattle.std.proofs.Common.{Bor, ◌≡◌, refl, sym, ap, ◌∙◌, subst, ℕ, ◌+◌, ◌-◌, ◌≤◌, ◌<◌, ◌^◌, arith, List, ◌++◌, Bool, true, false, ◌||◌, length, take, drop, length-append, length-take, length-drop, take-append-drop}
 use Rattle.entries.specs.declared.Pair.{Pair}
 use Rattle.entries.specs.declared.Span.{Span}
-use Rattle.entries.specs.declared.walk.Pairs.{Pairs}
-use Rattle.entries.specs.Walk.{GivesPair}
-use Rattle.std.proofs.Common.{Bor}
 use Rattle.entries.specs.Entries.{Stands, Lies, Holds, Places, PairPlaces, Paired, with_value, with_key, pair_at, place_of, SoughtAt, Seeks, Finds, span_at}
 use Rattle.entries.proofs.Standing.{stands-left, stands-right, stands_at, stands-part, item-head, item-content, value-head}
 
@@ -179,10 +175,10 @@ pub record Turn (s : List ℕ) (at to : ℕ) (es : Entries) (p : Pair) : Type 0 
   pub value_place : p.end ≡ at + 6 + length entry.k
   pub next_place : p.next ≡ at + 6 + length entry.k + length (encode entry.v)
 
-pub turn : {s : List ℕ} {at to : ℕ} {p : Pair} (es : Entries) → length s ≤ 2 ^ 20 → at < to → pair_at s at ≡ Ok p → Lies s at to es → Turn s at to es p
+pub turn : {s : List ℕ} {at to : ℕ} {p : Pair} (es : Entries) → length s ≤ 2 ^ 20 → at < to → Ok p ≡ pair_at s at → Lies s at to es → Turn s at to es p
 turn {s} {at} {to} {p} es w m e h =
     let f = first es m h in
-    let q : Ok p ≡ Ok (record { start = at + 6; end = at + 6 + length f.k; kind = kind_of f.v; next = at + 6 + length f.k + length (encode f.v) }) = sym e ∙ pair_is f.k f.v f.others f.whole w in
+    let q : Ok p ≡ Ok (record { start = at + 6; end = at + 6 + length f.k; kind = kind_of f.v; next = at + 6 + length f.k + length (encode f.v) }) = e ∙ pair_is f.k f.v f.others f.whole w in
     let a : p.start ≡ at + 6 = cc q in
     let b : p.end ≡ at + 6 + length f.k = cc q in
     let n : p.next ≡ at + 6 + length f.k + length (encode f.v) = cc q in
@@ -196,44 +192,42 @@ turn {s} {at} {to} {p} es w m e h =
       next_place = n;
     }
 
-pub no-entry : {s : List ℕ} {at to : ℕ} {broken : Broken} {X : Type 0} (es : Entries) → length s ≤ 2 ^ 20 → at < to → pair_at s at ≡ Err broken → Lies s at to es → X
+pub no-entry : {s : List ℕ} {at to : ℕ} {broken : Broken} {X : Type 0} (es : Entries) → length s ≤ 2 ^ 20 → at < to → Err broken ≡ pair_at s at → Lies s at to es → X
 no-entry es w m e h =
     let f = first es m h in
     absurd (let z : ◌≡◌ {A = ℕ} 0 1 = cc (e, pair_is f.k f.v f.others f.whole w) in omega arith)
 
 -- ---- a turn of a `for` over the entries of a part
 
--- it gives the entry, and goes on behind it
-pub record Step (s : List ℕ) (at to : ℕ) (p : Pair) (new : Pairs) : Type 0 where
-  pub before : at < to
-  pub is : pair_at s at ≡ Ok p
-  pub places : Places s at p.start p.end p.next
-  pub bytes : new.bytes.now ≡ s
-  pub end : new.to ≡ to
-  pub next : new.at ≡ p.next
+abbrev next_of : Pair → ℕ
+next_of p = p.next
 
--- it gives none, and that is the end
-pub record Stop (s : List ℕ) (at to : ℕ) (broken : Broken) : Type 0 where
-  pub before : at < to
-  pub is : pair_at s at ≡ Err broken
+abbrev pub Step : List ℕ → ℕ → ℕ → Pair → Walk Pair → Type 0
+Step = turns.Step pair_at next_of (λ s at p. Places s at p.start p.end p.next)
 
-module _ (old new : Pairs) {s : List ℕ} {to : ℕ} (b : old.bytes.now ≡ s) (t : old.to ≡ to) where
-  pub step : {r : Result Pair Broken} {p : Pair} → GivesPair old (Some r) new → r ≡ Ok p → Step s old.at to p new
-  step {p = p} g e =
-      let h = subst (λ (x : Result Pair Broken). GivesPair old (Some x) new) e g in
-      record {
-        before = omega (arith, h.0, t);
-        is = rw (← b) h.1;
-        places = rw (← b) h.2;
-        bytes = ap (λ (x : Bor (List ℕ)). x.now) h.3.bytes ∙ b;
-        end = h.3.to ∙ t;
-        next = h.4;
-      }
+module _ (old new : Walk Pair) {s : List ℕ} {to : ℕ} (b : old.bytes.now ≡ s) (t : old.to ≡ to) where
+  pub step : {r : Result Pair Broken} {p : Pair} → Gives pair_at next_of old (Some r) new → r ≡ Ok p → Step s old.at to p new
+  step g e = step_of pair_at next_of old new b t (λ s at p h. places_of s at (sym h)) g e
 
-  pub stop : {r : Result Pair Broken} {broken : Broken} → GivesPair old (Some r) new → r ≡ Err broken → Stop s old.at to broken
-  stop g e =
-      let h = subst (λ (x : Result Pair Broken). GivesPair old (Some x) new) e g in
-      record { before = omega (arith, h.0, t); is = rw (← b) h.1 }
+  pub stop : {r : Result Pair Broken} {broken : Broken} → Gives pair_at next_of old (Some r) new → r ≡ Err broken → turns.Stop pair_at next_of s old.at to broken
+  stop g e = stop_of pair_at next_of old new b t g e
+
+-- ---- a part of a part
+
+-- the same bytes, between the places that were asked for
+pub record Cut (whole part : Bor (List ℕ)) (start end from to : ℕ) : Type 0 where
+  pub bytes : part ≡ whole
+  pub first : start ≡ from
+  pub last : end ≡ to
+
+pub cut : {whole all part : Bor (List ℕ)} {start end from to : ℕ} → all ≡ whole → part ≡ all → (from ≤ to → to ≤ length all.now → (start ≡ from) × (end ≡ to))
+    → from ≤ to → to ≤ length whole.now → Cut whole part start end from to
+cut {to = to} a b places h g =
+    let q = places h (subst (λ (x : Bor (List ℕ)). to ≤ length x.now) (sym a) g) in
+    record { bytes = b ∙ a; first = q.0; last = q.1 }
+
+pub lies_in : {whole part : Bor (List ℕ)} {start end from to : ℕ} {es : Entries} → Cut whole part start end from to → Lies whole.now from to es → Lies part.now start end es
+lies_in c h = rw (c.bytes, c.first, c.last) h
 
 -- ---- the search for a key
 
@@ -243,9 +237,6 @@ pub record Sought (s key : List ℕ) (from to at : ℕ) (es : Entries) : Type 0 
   pub lies : Lies s at to rest
   pub same_value : get key es ≡ get key rest
   pub same_place : place_of key from es ≡ place_of key at rest
-
-pub search-start : {s key : List ℕ} {from to : ℕ} (es : Entries) → Lies s from to es → Sought s key from to from es
-search-start es h = record { rest = es; lies = h; same_value = refl; same_place = refl }
 
 module _ {s key : List ℕ} {from to at : ℕ} {es : Entries} (w : Sought s key from to at es) (h : to ≤ at) where
   pub search-end : get key es ≡ none

@@ -1,13 +1,13 @@
 // Whether a key stands twice among entries. Bits of the keys that were passed tell most keys to be new; where all bits of a key are there
 // already, the exact search decides. Where too many keys share their bits, as keys can be made to, the keys are put in order instead.
-ghost use Rattle.std.specs.Prelude.{◌≡◌, ◌≤◌, ◌<◌, ◌^◌, IfOk, length};
+ghost use Rattle.std.specs.Prelude.{◌≡◌, ◌<◌, ◌^◌, IfOk, length};
 ghost use Rattle.item.specs.Tree.{Entries};
 ghost use Rattle.entries.specs.Entries.{Lies, key_twice};
 ghost use Rattle.entries.specs.Contract.{hash_of, bits_of, Marked, twice_in, of_class};
 
 use crate::sorted::sorted_repeats;
-use crate::{Pairs, has_key, nth_item, search};
-use item::Found;
+use crate::{Pair, has_key, nth_item, search};
+use item::{Found, Part};
 
 // As many words as hold the bits of a class.
 const WORDS: usize = 2048;
@@ -17,6 +17,7 @@ const WORDS: usize = 2048;
 struct Crowded;
 
 // Equal keys have equal hashes; the factor is FNV's.
+#[tactic(auto, using(crate::proofs::Twice::hash_on, crate::proofs::Twice::hash_end), unfolding(crate::specs::Contract::hash_of))]
 fn hash(key: &[u8]) -> usize
     ensures { result ≡ hash_of key.now }
 {
@@ -28,6 +29,7 @@ fn hash(key: &[u8]) -> usize
 }
 
 // Up to three bits of a word.
+#[tactic(auto, unfolding(crate::specs::Contract::bits_of, crate::specs::Contract::bit))]
 fn bits_of(h: usize) -> usize
     ensures { result ≡ bits_of h }
 {
@@ -39,7 +41,6 @@ fn bits_of(h: usize) -> usize
 
 // Whether the bits of a hash were there; now they are.
 fn mark(seen: &mut [usize; WORDS], h: usize) -> bool
-    requires { length seen.old ≡ 2 ^ 11 }
     ensures { Marked seen.old seen.new h result }
 {
     let i = h % WORDS;
@@ -51,29 +52,29 @@ fn mark(seen: &mut [usize; WORDS], h: usize) -> bool
 
 // Whether a key of one class stands twice; the classes are the numbers up to `last`. A search that finds nothing costs a walk, and so
 // there are few of them.
+#[tactic(auto, using(crate::proofs::Walking::places_of))]
 fn class_repeats(
-    s: &[u8],
-    from: usize,
-    to: usize,
+    part: Part<'_>,
     class: usize,
     last: usize,
     seen: &mut [usize; WORDS],
 ) -> Result<bool, Crowded>
-    requires { (from ≤ to) × (to ≤ length s.now) × (length s.now ≤ 2 ^ 20) × (length seen.old ≡ 2 ^ 11) }
     ensures seen_len { length seen.new ≡ 2 ^ 11 }
-    ensures told { (es : Entries) → Lies s.now from to es → IfOk result (λ told. told ≡ twice_in (of_class class last) es) }
+    ensures told { (es : Entries) → Lies part.entry.bytes.now part.entry.from part.entry.to es → IfOk result (λ told. told ≡ twice_in (of_class class last) es) }
 {
     seen.fill(0);
     let mut spare: usize = 32;
-    for pair in Pairs::within(s, from, to) {
+    for pair in part.walk::<Pair>() {
         let Ok(pair) = pair else {
             return Ok(false);
         };
-        let h = hash(&s[pair.start..pair.end]);
+        let key = &part.bytes[pair.start..pair.end];
+        let h = hash(key);
         let is_of_class = (h / 268435456) & last == class;
         if is_of_class && mark(seen, h) {
             // The entries before this one end where its key's header begins.
-            if has_key(s, from, pair.start - 6, pair.start, pair.end) {
+            let before = part.encoded().part(part.from, pair.start - 6);
+            if has_key(before, key) {
                 return Ok(true);
             }
             if spare == 0 {
@@ -88,13 +89,13 @@ fn class_repeats(
 // The classes one after the other. Kept out of its caller's frame, so that its bits and the keys that are put in order never lie on the
 // stack together; both are gone before another mapping is read, so that depth costs none.
 #[inline(never)]
-fn filter_repeats(s: &[u8], from: usize, to: usize, last: usize) -> Result<bool, Crowded>
-    requires { (from ≤ to) × (to ≤ length s.now) × (length s.now ≤ 2 ^ 20) × (last < 2 ^ 4) }
-    ensures { (es : Entries) → Lies s.now from to es → IfOk result (λ told. told ≡ key_twice es) }
+fn filter_repeats(part: Part<'_>, last: usize) -> Result<bool, Crowded>
+    requires { last < 2 ^ 4 }
+    ensures { (es : Entries) → Lies part.entry.bytes.now part.entry.from part.entry.to es → IfOk result (λ told. told ≡ key_twice es) }
 {
     let mut seen = [0usize; WORDS];
     for class in 0..=last {
-        if class_repeats(s, from, to, class, last, &mut seen)? {
+        if class_repeats(part, class, last, &mut seen)? {
             return Ok(true);
         }
     }
@@ -102,15 +103,16 @@ fn filter_repeats(s: &[u8], from: usize, to: usize, last: usize) -> Result<bool,
 }
 
 // Each key is searched for among those behind it.
-fn few_repeat(s: &[u8], from: usize, to: usize) -> bool
-    requires { (from ≤ to) × (to ≤ length s.now) × (length s.now ≤ 2 ^ 20) }
-    ensures { (es : Entries) → Lies s.now from to es → result ≡ key_twice es }
+#[tactic(auto, using(crate::proofs::Walking::places_of))]
+fn few_repeat(part: Part<'_>) -> bool
+    ensures { (es : Entries) → Lies part.entry.bytes.now part.entry.from part.entry.to es → result ≡ key_twice es }
 {
-    for pair in Pairs::within(s, from, to) {
+    for pair in part.walk::<Pair>() {
         let Ok(pair) = pair else {
             return false;
         };
-        let behind = search(s, pair.next, to, &s[pair.start..pair.end]);
+        let others = part.encoded().part(pair.next, part.to);
+        let behind = search(others, &part.bytes[pair.start..pair.end]);
         if let Found::At(_) = behind {
             return true;
         }
@@ -118,43 +120,42 @@ fn few_repeat(s: &[u8], from: usize, to: usize) -> bool
     false
 }
 
-// Whether more than so many items stand from `from` to `to`; each has six bytes and more.
-fn has_more(s: &[u8], from: usize, to: usize, items: usize) -> bool
-    requires { from ≤ to }
-{
-    (to - from) / 6 > items && nth_item(s, from, items).is_some_and(|item| item.start < to)
+// Whether more than so many items stand in a part; each has six bytes and more.
+fn has_more(part: Part<'_>, items: usize) -> bool {
+    (part.to - part.from) / 6 > items
+        && nth_item(part.bytes, part.from, items).is_some_and(|item| item.start < part.to)
 }
 
-fn many_repeat(s: &[u8], from: usize, to: usize, last: usize) -> bool
-    requires { (from ≤ to) × (to ≤ length s.now) × (length s.now ≤ 2 ^ 20) × (last < 2 ^ 4) }
-    ensures { (es : Entries) → Lies s.now from to es → result ≡ key_twice es }
+fn many_repeat(part: Part<'_>, last: usize) -> bool
+    requires { last < 2 ^ 4 }
+    ensures { (es : Entries) → Lies part.entry.bytes.now part.entry.from part.entry.to es → result ≡ key_twice es }
 {
-    match filter_repeats(s, from, to, last) {
+    match filter_repeats(part, last) {
         Ok(is_twice) => is_twice,
-        Err(Crowded) => sorted_repeats(s, from, to),
+        Err(Crowded) => sorted_repeats(part),
     }
 }
 
-// Whether a key stands twice among the entries from `from` to `to`. Few are quickest compared with each other, and clearing the bits pays
-// from some 24 entries on. Of many, a class has some 4,096, lest its bits be crowded: three bits each of so many fill a tenth.
-pub fn repeats(s: &[u8], from: usize, to: usize) -> bool
-    requires { (from ≤ to) × (to ≤ length s.now) × (length s.now ≤ 2 ^ 20) }
-    ensures { (es : Entries) → Lies s.now from to es → result ≡ key_twice es }
+/// Whether a key stands twice among the entries of a part.
+// Few are quickest compared with each other, and clearing the bits pays from some 24 entries on. Of many, a class has some 4,096, lest its
+// bits be crowded: three bits each of so many fill a tenth.
+pub fn repeats(part: Part<'_>) -> bool
+    ensures { (es : Entries) → Lies part.entry.bytes.now part.entry.from part.entry.to es → result ≡ key_twice es }
 {
-    if to - from <= 512 {
-        return few_repeat(s, from, to);
+    if part.to - part.from <= 512 {
+        return few_repeat(part);
     }
-    if !has_more(s, from, to, 48) {
-        return few_repeat(s, from, to);
+    if !has_more(part, 48) {
+        return few_repeat(part);
     }
-    if has_more(s, from, to, 65536) {
-        return many_repeat(s, from, to, 15);
+    if has_more(part, 65536) {
+        return many_repeat(part, 15);
     }
-    if has_more(s, from, to, 16384) {
-        return many_repeat(s, from, to, 7);
+    if has_more(part, 16384) {
+        return many_repeat(part, 7);
     }
-    if has_more(s, from, to, 8192) {
-        return many_repeat(s, from, to, 1);
+    if has_more(part, 8192) {
+        return many_repeat(part, 1);
     }
-    many_repeat(s, from, to, 0)
+    many_repeat(part, 0)
 }

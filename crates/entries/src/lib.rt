@@ -2,7 +2,7 @@
 // The bytes may be any; where no items stand there, an answer is only within them.
 #![tactic(auto)]
 
-ghost use Rattle.std.specs.Prelude.{◌≡◌, ◌-◌, ◌≤◌, ◌^◌, length, take, drop};
+ghost use Rattle.std.specs.Prelude.{◌≡◌, ◌-◌, take, drop};
 ghost use Rattle.item.specs.Tree.{Entries, has_key, get};
 ghost use Rattle.item.specs.Encode.{encode};
 ghost use Rattle.item.specs.Places.{header_at};
@@ -10,20 +10,18 @@ ghost use Rattle.entries.specs.Entries.{Lies, Holds, pair_at, PairPlaces, Paired
 
 mod filter;
 mod sorted;
-mod walk;
 
 pub use filter::repeats;
-use item::{Broken, Found, equal_bytes, header_at};
-pub use walk::Pairs;
+use item::{Broken, Found, Part, Placed, Walk, equal_bytes, header_at};
 
-// An item by its places.
+/// An item by its places.
 #[derive(Clone, Copy, Debug, PartialEq, Eq)]
 pub struct Span {
     pub start: usize,
     pub end: usize,
 }
 
-// An entry: where its key's text begins and ends, which is where its value's item begins; the value's kind and its end.
+/// An entry: where its key's text begins and ends, which is where its value's item begins; the value's kind and its end.
 #[derive(Clone, Copy, Debug, PartialEq, Eq)]
 pub struct Pair {
     pub start: usize,
@@ -32,6 +30,25 @@ pub struct Pair {
     pub next: usize,
 }
 
+pub type Pairs<'a> = Walk<'a, Pair>;
+
+impl Placed for Pair {
+    ghost reads = { pair_at };
+
+    ghost ends = { λ pair. pair.next };
+
+    #[inline(always)]
+    fn read(bytes: &[u8], at: usize) -> Result<Pair, Broken> {
+        pair_at(bytes, at)
+    }
+
+    #[inline(always)]
+    fn end(self) -> usize {
+        self.next
+    }
+}
+
+/// The item that begins at `at`: any place of any bytes.
 #[tactic(auto, unfolding(crate::specs::Entries::span_at))]
 pub fn item_at(s: &[u8], at: usize) -> Option<Span>
     ensures { result ≡ span_at at (header_at s.now at) }
@@ -43,7 +60,8 @@ pub fn item_at(s: &[u8], at: usize) -> Option<Span>
     })
 }
 
-// The item that stands `skip` items behind the one at `from`.
+/// The item that stands `skip` items behind the one at `from`.
+#[tactic(auto, using(crate::proofs::Counting::nth_on, crate::proofs::Counting::nth_lost), unfolding(crate::specs::Entries::nth_item))]
 pub fn nth_item(s: &[u8], from: usize, skip: usize) -> Option<Span>
     ensures { result ≡ nth_item s.now from skip }
 {
@@ -54,6 +72,7 @@ pub fn nth_item(s: &[u8], from: usize, skip: usize) -> Option<Span>
     item_at(s, at)
 }
 
+/// The entry that begins at `at`: any place of any bytes. Its key may be of any kind.
 #[tactic(auto, using(crate::proofs::Walking::pair_places, crate::proofs::Walking::paired), unfolding(crate::specs::Entries::pair_at, crate::specs::Entries::with_key, crate::specs::Entries::with_value))]
 pub fn pair_at(s: &[u8], at: usize) -> Result<Pair, Broken>
     ensures value { result ≡ pair_at s.now at }
@@ -70,41 +89,38 @@ pub fn pair_at(s: &[u8], at: usize) -> Result<Pair, Broken>
     })
 }
 
-// The search for a key among the entries from `from` to `to`: the place of its value.
-pub fn search(s: &[u8], from: usize, to: usize, key: &[u8]) -> Found
-    requires { (to ≤ length s.now) × (length s.now ≤ 2 ^ 20) }
-    ensures found_inside { FoundInside s.now result }
-    ensures value { (es : Entries) → Lies s.now from to es → Seeks s.now (get key.now es) result }
-    ensures place { (es : Entries) → Lies s.now from to es → result ≡ place_of key.now from es }
+/// The search for a key among the entries of a part: the place of its value.
+#[tactic(auto, using(crate::proofs::Walking::places_of))]
+pub fn search(part: Part<'_>, key: &[u8]) -> Found
+    ensures found_inside { FoundInside part.entry.bytes.now result }
+    ensures value { (es : Entries) → Lies part.entry.bytes.now part.entry.from part.entry.to es → Seeks part.entry.bytes.now (get key.now es) result }
+    ensures place { (es : Entries) → Lies part.entry.bytes.now part.entry.from part.entry.to es → result ≡ place_of key.now part.entry.from es }
 {
-    for pair in Pairs::within(s, from, to) {
+    for pair in part.walk::<Pair>() {
         let Ok(pair) = pair else {
             return Found::Nothing;
         };
         let is_as_long = pair.end - pair.start == key.len();
-        if is_as_long && equal_bytes(&s[pair.start..pair.end], key) {
+        if is_as_long && equal_bytes(&part.bytes[pair.start..pair.end], key) {
             return Found::At(pair.end);
         }
     }
     Found::Nothing
 }
 
-// The place of a key's value among the entries from `from` to `to`.
-pub fn find(s: &[u8], from: usize, to: usize, key: &[u8]) -> Found
-    requires { (to ≤ length s.now) × (length s.now ≤ 2 ^ 20) }
-    ensures found_inside { FoundInside s.now result }
-    ensures value { (es : Entries) → Holds s.now from to es → Finds s.now (get key.now es) result }
+/// The place of a key's value among the entries of a part.
+pub fn find(part: Part<'_>, key: &[u8]) -> Found
+    ensures found_inside { FoundInside part.entry.bytes.now result }
+    ensures value { (es : Entries) → Holds part.entry.bytes.now part.entry.from part.entry.to es → Finds part.entry.bytes.now (get key.now es) result }
 {
-    search(s, from, to, key)
+    search(part, key)
 }
 
-// Whether the key that stands in `s` from `key` to `key_end` is a key of the entries that stand there from `from` to `to`.
-pub fn has_key(s: &[u8], from: usize, to: usize, key: usize, key_end: usize) -> bool
-    requires { (from ≤ to) × (to ≤ length s.now) × (key ≤ key_end) × (key_end ≤ length s.now) × (length s.now ≤ 2 ^ 20) }
-    ensures { (es : Entries) → take (to - from) (drop from s.now) ≡ encode es → result
-        ≡ has_key (take (key_end - key) (drop key s.now)) es }
+/// Whether a key is one of the entries of a part.
+pub fn has_key(part: Part<'_>, key: &[u8]) -> bool
+    ensures { (es : Entries) → take (part.entry.to - part.entry.from) (drop part.entry.from part.entry.bytes.now) ≡ encode es → result ≡ has_key key.now es }
 {
-    match search(s, from, to, &s[key..key_end]) {
+    match search(part, key) {
         Found::At(_) => true,
         Found::Nothing => false,
     }

@@ -1,13 +1,14 @@
 // Whether a key stands twice among entries, whatever their keys are: the first keys are put in order, each key behind them is looked up
 // there, and so on with those behind.
-ghost use Rattle.std.specs.Prelude.{◌≤◌, ◌<◌, ◌^◌, ◌≡◌, IfSome, length};
+ghost use Rattle.std.specs.Prelude.{◌<◌, ◌^◌, ◌≡◌, ◌≤◌, IfSome, length};
 ghost use Rattle.std.specs.Ordering.{nat_cmp};
 ghost use Rattle.std.specs.Cmp.Lexicographic.{slice_cmp};
 ghost use Rattle.item.specs.Tree.{Entries};
 ghost use Rattle.entries.specs.Entries.{Lies, key_twice};
 ghost use Rattle.entries.specs.Contract.{key_cmp, key_of, Run, Located, Inserted, AgreesChunk};
 
-use crate::Pairs;
+use crate::Pair;
+use item::Part;
 use std::cmp::Ordering;
 
 // As many keys as are put in order at once.
@@ -46,24 +47,34 @@ fn compare_bytes(a: &[u8], b: &[u8]) -> Ordering
 fn compare(a: &[u8], b: &[u8]) -> Ordering
     ensures { result ≡ key_cmp a.now b.now }
 {
-    let order = a.len().cmp(&b.len());
-    if order.is_ne() {
-        return order;
+    if a.len() != b.len() {
+        return a.len().cmp(&b.len());
     }
     compare_bytes(a, b)
 }
 
-// Where a key goes among others; or where it is one of them.
+// Where a key goes among others; or where it is one of them. A loop, since std's `binary_search_by` compares once more, and goes on where
+// the key is found, which takes more instructions on keys that share a word.
 fn place_of(s: &[u8], run: &[KeyPlace; KEYS], count: usize, key: &[u8]) -> Result<usize, usize>
     requires { Run s.now run.now count }
     ensures { Located s.now run.now count key.now result }
 {
-    run[..count].binary_search_by(|place| compare(place.key(s), key))
+    let mut low = 0;
+    let mut high = count;
+    while low < high {
+        let middle = (low + high) / 2;
+        match compare(run[middle].key(s), key) {
+            Ordering::Less => low = middle + 1,
+            Ordering::Equal => return Ok(middle),
+            Ordering::Greater => high = middle,
+        }
+    }
+    Err(low)
 }
 
 // A loop, since libraries call no `memmove`.
 fn insert(run: &mut [KeyPlace; KEYS], count: usize, index: usize, place: KeyPlace)
-    requires { (index ≤ count) × (count < 2 ^ 11) × (length run.old ≡ 2 ^ 11) }
+    requires { (index ≤ count) × (count < 2 ^ 11) }
     ensures { Inserted run.old run.new count index place }
 {
     for i in (index..count).rev() {
@@ -74,19 +85,21 @@ fn insert(run: &mut [KeyPlace; KEYS], count: usize, index: usize, place: KeyPlac
 
 // The first entries are put in order, and those behind them are looked up: where the entries behind the first begin, unless a key stands
 // twice.
-fn chunk_repeats(s: &[u8], from: usize, to: usize, run: &mut [KeyPlace; KEYS]) -> Option<usize>
-    requires { (from < to) × (to ≤ length s.now) × (length s.now ≤ 2 ^ 20) × (length run.old ≡ 2 ^ 11) }
+#[tactic(auto, using(crate::proofs::Walking::places_of))]
+fn chunk_repeats(part: Part<'_>, run: &mut [KeyPlace; KEYS]) -> Option<usize>
+    requires { (part.from < part.to) }
     ensures run_len { length run.new ≡ 2 ^ 11 }
-    ensures goes_on { IfSome result (λ behind. from < behind) }
-    ensures agrees_chunk { (es : Entries) → Lies s.now from to es → AgreesChunk s.now to es result }
+    ensures goes_on { IfSome result (λ behind. part.entry.from < behind) }
+    ensures agrees_chunk { (es : Entries) → Lies part.entry.bytes.now part.entry.from part.entry.to es → AgreesChunk part.entry.bytes.now part.entry.to es result }
 {
     let mut count = 0;
-    let mut behind = from;
-    for pair in Pairs::within(s, from, to) {
+    let mut behind = part.from;
+    for pair in part.walk::<Pair>() {
         let Ok(pair) = pair else {
-            return Some(to);
+            return Some(part.to);
         };
-        let Err(index) = place_of(s, run, count, &s[pair.start..pair.end]) else {
+        let key = &part.bytes[pair.start..pair.end];
+        let Err(index) = place_of(part.bytes, run, count, key) else {
             return None;
         };
         if count < KEYS {
@@ -105,14 +118,14 @@ fn chunk_repeats(s: &[u8], from: usize, to: usize, run: &mut [KeyPlace; KEYS]) -
 // Kept out of its caller's frame, so that its keys and the caller's bits never lie on the stack together. A `while`, as it goes on where a
 // chunk ends.
 #[inline(never)]
-pub fn sorted_repeats(s: &[u8], from: usize, to: usize) -> bool
-    requires { (from ≤ to) × (to ≤ length s.now) × (length s.now ≤ 2 ^ 20) }
-    ensures { (es : Entries) → Lies s.now from to es → result ≡ key_twice es }
+pub fn sorted_repeats(part: Part<'_>) -> bool
+    ensures { (es : Entries) → Lies part.entry.bytes.now part.entry.from part.entry.to es → result ≡ key_twice es }
 {
     let mut run = [KeyPlace { start: 0, end: 0 }; KEYS];
-    let mut at = from;
-    while at < to {
-        let Some(behind) = chunk_repeats(s, at, to, &mut run) else {
+    let mut at = part.from;
+    while at < part.to {
+        let others = part.encoded().part(at, part.to);
+        let Some(behind) = chunk_repeats(others, &mut run) else {
             return true;
         };
         at = behind;

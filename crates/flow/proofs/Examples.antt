@@ -1,9 +1,7 @@
 -- The definitions computed on texts of document 01. Assumes nothing.
-use mathlib.Core.Path.{◌≡◌, refl}
-use Prim.Native.Nat.{ℕ}
+use Rattle.std.proofs.Common.{◌≡◌, refl, ℕ, negsuc}
 use Prim.Native.String.{String}
-use mathlib.Core.Option.{some}
-use lib.IntN.{negsuc}
+use Rattle.std.proofs.Math.Option.{some}
 use Rattle.refusal.specs.Base.{Answer, good, refused, bytes}
 use Rattle.refusal.proofs.Open.{Base-open}
 use Rattle.utf8.proofs.Open.{Utf8-open, White-open}

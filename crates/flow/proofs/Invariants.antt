@@ -1,16 +1,8 @@
 -- Where the loops of the readers of collections stand, and what each of their turns comes to. Assumes nothing.
 use Rattle.std.specs.Prelude.{Result, Ok, Err, if◌then◌else◌}
-use mathlib.Core.Path.{◌≡◌, refl, sym, ap, ◌∙◌, subst}
-use mathlib.Core.Logic.{⊎_elim}
-use Prim.Native.Nat.{ℕ, suc, ◌+◌, ◌-◌, ◌≤◌, ◌<◌}
-use native.Mathlib.Numerals.{add-one}
-use native.Mathlib.Omega.{arith}
-use mathlib.Core.List.{List, ◌∷◌, ◌++◌, append_assoc, append-nil}
-use mathlib.Core.Bool.{Bool, true, false, not, ◌||◌, or-true, or-false, or_assoc, false≢true}
-use lib.Dec.{ltb}
-use lib.ListN.{length, drop, take, get_or, length-append, length-drop, drop_of_length-le}
-use lib.Seq.{sets, length-sets, sets-eq, drop-cons, drop_at, take-add, take-take, length-take-le}
-use borrow.Author.Tests.{lt-ltb, le-ltb, eq-eqb, ne_eqb}
+use Rattle.std.proofs.Common.{◌≡◌, refl, sym, ap, ◌∙◌, subst, ⊎_elim, ℕ, suc, ◌+◌, ◌-◌, ◌≤◌, ◌<◌, add-one, arith, List, ◌∷◌, ◌++◌, append_assoc, append-nil, Bool, true, false, not, ◌||◌, ltb, length, drop, take, get_or, length-append, length-drop, drop_of_length-le, drop-cons, drop_at, take-add, take-take, length-take-le, lt-ltb, le-ltb, eq-eqb, ne_eqb}
+use Rattle.std.proofs.Math.Bool.{or-true, or-false, or_assoc, false≢true}
+use Rattle.std.proofs.Math.Seq.{sets, length-sets, sets-eq}
 use Rattle.refusal.specs.Base.{Answer, good, refused, ◌>>=◌, ◌>>◌, ensure, ch, same}
 use Rattle.item.specs.Tree.{Yaml, Items, end, ◌▸◌, ◌◂◌, no_item, Entries, done, pair, add, no_entry, has_key}
 use Rattle.item.specs.Encode.{item, encode}

@@ -1,14 +1,9 @@
 -- What a value and an entry come to, by the bytes at their places. Assumes nothing.
 use Rattle.std.specs.Prelude.{Result, Ok, Err}
-use mathlib.Core.Path.{◌≡◌, refl, sym, ap, ◌∙◌}
-use mathlib.Core.Logic.{◌⊎◌, inl, inr, ⊎_elim}
-use Prim.Native.Nat.{ℕ, zero, suc, ◌+◌, ◌-◌, ◌≤◌, ◌<◌}
-use native.Mathlib.Omega.{arith}
-use mathlib.Core.List.{List, ◌∷◌}
-use mathlib.Core.Bool.{Bool, true, false, false≢true}
-use mathlib.Core.Option.{none, some}
-use lib.ListN.{length, drop, get_or, length-drop, drop_of_length-le}
-use borrow.Author.Tests.{eq-eqb, ne_eqb, le-leb, lt-leb}
+use Rattle.std.proofs.Common.{◌≡◌, refl, sym, ap, ◌∙◌, ◌⊎◌, inl, inr, ⊎_elim, ℕ, zero, suc, ◌+◌, ◌-◌, ◌≤◌, ◌<◌, arith, List, ◌∷◌, Bool, true, false, length, drop, get_or, length-drop, drop_of_length-le, eq-eqb, ne_eqb, le-leb}
+use Rattle.std.proofs.Math.Bool.{false≢true}
+use Rattle.std.proofs.Math.Option.{none, some}
+use Rattle.std.proofs.lemmas.Bool.{lt-leb}
 use Rattle.refusal.specs.Base.{Answer, good, refused, ◌>>=◌, ◌>>◌, ensure, given, ch, empty}
 use Rattle.refusal.specs.declared.Refusal.{Refusal}
 use Rattle.refusal.specs.declared.Refusal.TheVariants.{KeyNotScalar, KeyWithoutColon, TextAfterValue}
@@ -17,6 +12,8 @@ use Rattle.item.specs.Encode.{head, item, encode}
 use Rattle.writer.specs.declared.Writer.{Writer}
 use Rattle.writer.specs.Writing.{cap_of, Appends, Begins, Fills}
 use Rattle.writer.proofs.Laws.{appends_more, filled, len_appended, keeps_appended, keeps_begun, keeps_more}
+use Rattle.utf8.specs.Places.{First}
+use Rattle.utf8.proofs.Places.{found_or, kept_to}
 use Rattle.number.specs.Integers.{int_text}
 use Rattle.scalar.specs.declared.Role.{Role}
 use Rattle.scalar.specs.declared.Role.TheVariants.{AsValue, AsKey}
@@ -343,6 +340,19 @@ module _ (s : List ℕ) (i : ℕ) where
     pub separators-on : (got : Bool) → separates got (get_or s i 0) ≡ true → skip_separators got (drop i s) ≡ skip_separators got (drop (i + 1) s)
     unfolding skip_separators
     separators-on got e = ap (skip_separators got) (next s i h) ∙ rw e
+
+-- the place that a search for what stands behind spaces, or behind separators, finds
+module _ (s : List ℕ) (from r : ℕ) where
+  pub spaces_found : First (λ k. get_or s k 0 ≡ 32 → ⊥) (λ k. get_or s k 0 ≡ 32) from (length s) r → drop r s ≡ skip_spaces (drop from s)
+  spaces_found f =
+      sym (kept_to (λ k. skip_spaces (drop k s)) f (λ k h e. spaces-on s k h e)
+      ∙ found_or (λ k. skip_spaces (drop k s) ≡ drop k s) f (λ k h e. spaces-here s k h e) (spaces-end s (length s) (omega arith)))
+
+  pub separators_found : (got : Bool) → First (λ k. separates got (get_or s k 0) ≡ false) (λ k. separates got (get_or s k 0) ≡ true) from (length s) r
+      → drop r s ≡ skip_separators got (drop from s)
+  separators_found got f =
+      sym (kept_to (λ k. skip_separators got (drop k s)) f (λ k h e. separators-on s k h got e)
+      ∙ found_or (λ k. skip_separators got (drop k s) ≡ drop k s) f (λ k h e. separators-here s k h got e) (separators-end s (length s) got (omega arith)))
 
 -- ---- a part of a line that is one value
 

@@ -17,10 +17,11 @@ ghost use Rattle.flow.specs.Contract.{skip_separators, flow_items, flow_entries,
 use item::Kind;
 use refusal::Refusal;
 use scalar::{Parsed, Quote, Role, Stops};
+use utf8::first_place;
 use writer::Writer;
 
-// The place in a line that a reader has come to: the line's bytes, how many of them are read, and how many more collections may be
-// opened there. It is a value that is copied and never lent: a cursor that has gone on is another one, and the line outlives both (`'a`).
+/// The place in a line that a reader has come to: the line's bytes, how many of them are read, and how many more collections may be
+/// opened there. It is a value that is copied and never lent: a cursor that has gone on is another one, and the line outlives both (`'a`).
 // Its functions are few, have no branch and no loop, and hand slice and numbers on. Other crates call `flow`, whose parameters are plain.
 #[derive(Clone, Copy)]
 pub struct Cursor<'a> {
@@ -42,12 +43,7 @@ fn skip_spaces(s: &[u8], from: usize) -> usize
     ensures forward { from ≤ result }
     ensures in_range { result ≤ length s.now }
 {
-    for i in from..s.len() {
-        if s[i] != b' ' {
-            return i;
-        }
-    }
-    s.len()
+    first_place(from, s.len(), |i| s[i] != b' ')
 }
 
 // Whether a byte separates the items of a collection: a space, and once there is an item, a comma.
@@ -65,12 +61,7 @@ fn skip_separators(s: &[u8], from: usize, got: bool) -> usize
     ensures in_range { result ≤ length s.now }
     ensures other { result < length s.now → agree.separates got (get_or s.now result 0) ≡ false }
 {
-    for i in from..s.len() {
-        if !separates(s[i], got) {
-            return i;
-        }
-    }
-    s.len()
+    first_place(from, s.len(), |i| !separates(s[i], got))
 }
 
 // Whether neither plain text nor a sequence takes a byte here.
@@ -193,7 +184,7 @@ fn mapping(s: &[u8], start: usize, site: Site, writer: &mut Writer<'_>) -> Resul
 {
     let first = writer.used();
     let end = entries(s, start, site, writer);
-    if entries::repeats(writer.bytes(), first, writer.used()) {
+    if entries::repeats(writer.written().part(first, writer.used())) {
         return Err(Refusal::KeyTwice { line: site.line });
     }
     end
@@ -254,6 +245,7 @@ fn value(
 }
 
 impl<'a> Cursor<'a> {
+    /// The line's first byte, with so many levels of collections left.
     pub fn start(line: &'a [u8], levels: usize) -> Cursor<'a>
         ensures line { result.line ≡ line.entry }
         ensures place { result.at ≡ 0 }
@@ -266,6 +258,7 @@ impl<'a> Cursor<'a> {
         }
     }
 
+    /// Behind the spaces at the place; a tab is none.
     pub fn skip_spaces(self) -> Cursor<'a>
         requires { self.at ≤ length self.line.now }
         ensures line { result.line ≡ self.entry.line }
@@ -301,7 +294,7 @@ impl<'a> Cursor<'a> {
     }
 }
 
-/// A part of a line that is one value, and whether the value can be a key.
+/// A part of a line that is one value, and whether the value can be a key. What stands behind the value but for spaces is refused last.
 pub fn flow(
     s: &[u8],
     levels: usize,

@@ -1,21 +1,17 @@
 -- The decoder takes nothing but encodings: what it reads from bytes is what is written for the tree it gives. Assumes nothing.
 use Rattle.std.specs.Prelude.{if◌then◌else◌}
-use mathlib.Core.Path.{◌≡◌, refl, sym, ap, ◌∙◌, subst}
-use Prim.Native.Nat.{ℕ, zero, suc, ◌+◌, ◌-◌, ◌*◌, ◌/◌, ◌%◌, ◌^◌, ◌≤◌, ◌<◌}
-use native.Mathlib.Nat.{pow-suc}
-use native.Mathlib.Omega.{arith}
-use mathlib.Core.List.{List, [], ◌∷◌, ◌++◌, append_assoc}
-use mathlib.Core.Bool.{Bool, true, false, ◌&&◌, false≢true}
-use mathlib.Core.Option.{Option, none, some, some-injective, none-ne-some}
-use lib.Dec.{leb, ltb, eqb}
-use lib.ListN.{length, take, drop, take-append-drop, length-drop}
-use lib.Seq.{length-take-le, drop-drop}
-use lib.IntN.{ℤ, pos, negsuc}
-use borrow.Author.Tests.{leb-true, eqb-true}
+use Rattle.std.proofs.Common.{◌≡◌, refl, sym, ap, ◌∙◌, subst, ℕ, zero, suc, ◌+◌, ◌-◌, ◌*◌, ◌/◌, ◌%◌, ◌^◌, ◌≤◌, ◌<◌, pow-suc, arith, List, [], ◌∷◌, ◌++◌, append_assoc, Bool, true, false, ◌&&◌, leb, ltb, eqb, length, take, drop, get_or, take-append-drop, length-drop, length-take-le, drop-drop, ℤ, pos, negsuc, leb-true, eqb-true}
+use Rattle.std.proofs.lemmas.Bool.{false≢true}
+use Rattle.std.proofs.Math.Option.{Option, none, some, some-injective, none-ne-some}
 use Rattle.refusal.proofs.Tools.{chosen}
 use Rattle.item.specs.Tree.{Shape, Node, Yaml, null, Items, Entries}
 use Rattle.item.specs.Encode.{le, number, head, item, flag, twos, encode, Bytes}
 use Rattle.item.specs.Decode.{◌>>=◌, Decoder, header, unflag, untwos, nothing, unint, unkey, decode_items, decode_entries, content_of, node, decode}
+
+-- bytes by their places
+pub bytes_of : (s : List ℕ) → ((i : ℕ) → get_or s i 0 < 256) → Bytes s
+bytes_of [] h = tt
+bytes_of (b ∷ s) h = (h 0, bytes_of s (λ i. h (suc i)))
 
 bytes_left : (a b : List ℕ) → Bytes (a ++ b) → Bytes a
 bytes_left [] b h = tt

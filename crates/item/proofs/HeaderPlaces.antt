@@ -1,15 +1,8 @@
 -- The items at places, by what stands there, and what that tells of the decoder's header. Assumes nothing.
-use mathlib.Core.Path.{◌≡◌, refl, sym, ap, ◌∙◌}
-use Prim.Native.Nat.{ℕ, suc, ◌+◌, ◌-◌, ◌*◌, ◌≤◌, ◌<◌, ◌^◌}
-use native.Mathlib.Numerals.{towards_suc}
-use native.Mathlib.Omega.{arith}
-use mathlib.Core.List.{List, ◌∷◌, ◌++◌, append_assoc}
-use mathlib.Core.Bool.{Bool, true, false}
-use mathlib.Core.Option.{Option, none, some}
-use lib.Dec.{ltb}
-use lib.ListN.{length, take, drop, get_or, length-drop, length-append}
-use lib.Seq.{drop-cons, drop-drop}
-use borrow.Author.Tests.{lt-ltb, le-ltb, le-leb, lt-leb, ltb-true, ltb-false}
+use Rattle.std.proofs.Common.{◌≡◌, refl, sym, ap, ◌∙◌, ℕ, suc, ◌+◌, ◌-◌, ◌*◌, ◌≤◌, ◌<◌, ◌^◌, arith, List, ◌∷◌, ◌++◌, append_assoc, Bool, true, false, ltb, length, take, drop, get_or, length-drop, length-append, drop-cons, drop-drop, lt-ltb, le-ltb, le-leb, ltb-true, ltb-false}
+use Rattle.std.proofs.lemmas.Bool.{lt-leb}
+use Rattle.std.proofs.Math.Numerals.{towards_suc}
+use Rattle.std.proofs.Math.Option.{Option, none, some}
 use Rattle.item.specs.Encode.{number, head, item}
 use Rattle.item.specs.Decode.{header}
 use Rattle.item.proofs.Size.{head-length}
@@ -30,10 +23,10 @@ module _ (s : List ℕ) (i : ℕ) where
   unfolding number
   two_at h = simp towards_suc (rw (take_next s i 1 (omega arith), take_next s (suc i) 0 (omega arith)) (omega arith))
 
-  pub four-at : i + 4 ≤ length s
+  pub four_at : i + 4 ≤ length s
       → number (take 4 (drop i s)) ≡ get_or s i 0 + 256 * get_or s (i + 1) 0 + 65536 * get_or s (i + 2) 0 + 2 ^ 24 * get_or s (i + 3) 0
   unfolding number
-  four-at h =
+  four_at h =
       simp towards_suc
       (rw (take_next s i 3 (omega arith), take_next s (suc i) 2 (omega arith), take_next s (suc (suc i)) 1 (omega arith), take_next s (suc (suc (suc i))) 0 (omega arith)) (omega arith))
 
@@ -45,9 +38,9 @@ module _ (s : List ℕ) (at : ℕ) where
   at_cut h = rw (lt-ltb (length s) (at + 6) h)
 
   module _ (n : ℕ) (h : at + 6 ≤ length s) (e : number (take 4 (drop at s)) ≡ n) where
-    pub at-past : length s < at + 6 + n → header_at s at ≡ Err PastEnd
+    pub at_past : length s < at + 6 + n → header_at s at ≡ Err PastEnd
     unfolding header_at
-    at-past m = rw (le-ltb (length s) (at + 6) h, e, lt-ltb (length s) (at + 6 + n) m)
+    at_past m = rw (le-ltb (length s) (at + 6) h, e, lt-ltb (length s) (at + 6 + n) m)
 
     pub at_item : (k : ℕ) → number (take 2 (drop (at + 4) s)) ≡ k → at + 6 + n ≤ length s → header_at s at ≡ Ok (record { kind = k; from = at + 6; to = at + 6 + n })
     unfolding header_at
@@ -84,7 +77,7 @@ header-places s at = go (ltb (length s) (at + 6)) refl
     whole : at + 6 ≤ length s → (t : Bool) → ltb (length s) (at + 6 + n) ≡ t → header (drop at s) ≡ found s (header_at s at)
     whole h true e =
         let i : length s < at + 6 + n = ltb-true _ _ e in
-        rw (at-past s at n h refl i, le-leb 6 m (omega (arith, long)), lt-leb n (m - 6) (omega (arith, long)))
+        rw (at_past s at n h refl i, le-leb 6 m (omega (arith, long)), lt-leb n (m - 6) (omega (arith, long)))
     whole h false e =
         let i : at + 6 + n ≤ length s = ltb-false _ _ e in
         let j : at + 6 + n - (at + 6) ≡ n = omega arith in

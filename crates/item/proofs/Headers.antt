@@ -1,12 +1,10 @@
 -- What a header tells: the places of an item, whatever stands there, and that it is none. Assumes nothing.
-use Rattle.std.proofs.Common.{◌≡◌, refl, sym, ap, ◌∙◌, subst, ℕ, ◌+◌, ◌-◌, ◌≤◌, List, Bool, true, false, Result, Ok, Err, length, take, drop, arith}
-use mathlib.Core.Option.{none, some}
-use lib.Dec.{ltb}
-use borrow.Author.Tests.{ltb-true, ltb-false}
+use Rattle.std.proofs.Common.{◌≡◌, refl, sym, ap, ◌∙◌, subst, ℕ, ◌+◌, ◌-◌, ◌≤◌, List, Bool, true, false, Result, Ok, Err, length, take, drop, arith, ltb, ltb-true, ltb-false}
+use Rattle.std.proofs.Math.Option.{none, some}
 use Rattle.item.specs.Encode.{number}
 use Rattle.item.specs.Decode.{header}
 use Rattle.item.specs.Places.{header_at}
-use Rattle.item.proofs.HeaderPlaces.{found, at_cut, at-past, at_item, header-places}
+use Rattle.item.proofs.HeaderPlaces.{found, at_cut, at_past, at_item, header-places}
 use Rattle.item.specs.declared.Item.{Item}
 use Rattle.item.specs.declared.Broken.{Broken}
 
@@ -30,7 +28,7 @@ spans_at s at = go (ltb (length s) (at + 6)) refl
     n = number (take 4 (drop at s))
 
     whole : at + 6 ≤ length s → (t : Bool) → ltb (length s) (at + 6 + n) ≡ t → SpansAt s at (header_at s at)
-    whole g true e = rw (at-past s at n g refl (ltb-true _ _ e)) tt
+    whole g true e = rw (at_past s at n g refl (ltb-true _ _ e)) tt
     whole g false e =
         let i : at + 6 + n ≤ length s = ltb-false _ _ e in
         rw (at_item s at n g refl _ refl i) (record { start = refl; order = omega arith; fits = omega arith })

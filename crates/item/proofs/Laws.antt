@@ -1,6 +1,5 @@
 -- What the code computes of booleans, as the definition has it. Assumes nothing.
-use mathlib.Core.Path.{◌≡◌, refl}
-use mathlib.Core.Bool.{Bool, true, false}
+use Rattle.std.proofs.Common.{◌≡◌, refl, Bool, true, false}
 use mir.Val.{bool_byte}
 use Rattle.item.specs.Encode.{flag}
 

@@ -1,12 +1,11 @@
 -- Parts that are written and read at once: a part of a buffer that is overwritten is a run of stores, and std's bytes of a number are the
 -- definition's. Assumes nothing.
-use Rattle.std.proofs.Common.{◌≡◌, ℕ, ◌+◌, ◌≤◌, List, length, take, refl, sym, ◌∙◌, append_assoc, arith}
+use Rattle.std.proofs.Common.{◌≡◌, ℕ, ◌+◌, ◌≤◌, List, length, take, refl, sym, ◌∙◌, append_assoc, arith, drop-drop}
 use Rattle.std.specs.Int.{to_le_bytes, w16, w32, w64}
 use Rattle.std.proofs.lemmas.List.Edits.{sets, sets-eq}
 use borrow.Rule.Slice.PartMut.{put_mid}
-use native.Mathlib.Nat.{div-div-eq-div-mul}
-use native.Mathlib.Numerals.{towards_suc}
-use lib.Seq.{drop-drop}
+use Rattle.std.proofs.Math.Nat.{div-div-eq-div-mul}
+use Rattle.std.proofs.Math.Numerals.{towards_suc}
 use Rattle.item.specs.Encode.{le}
 
 pub put_part : (l bs : List ℕ) (at k : ℕ) → k ≡ length bs → at + k ≤ length l → put_mid at k l bs ≡ sets l at bs

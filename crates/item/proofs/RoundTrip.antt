@@ -1,16 +1,7 @@
 -- The round trip: what is encoded is decoded to the same tree, so that no encoding is the front of another. Assumes nothing.
-use mathlib.Core.Path.{◌≡◌, refl, sym, ap, ◌∙◌}
-use Prim.Native.Nat.{ℕ, zero, suc, ◌+◌, ◌-◌, ◌/◌, ◌^◌, ◌≤◌, ◌<◌}
-use native.Mathlib.Nat.{pow-suc, le_refl}
-use native.Mathlib.Omega.{arith}
-use mathlib.Core.List.{List, [], ◌∷◌, ◌++◌, append_assoc}
-use mathlib.Core.Bool.{true, false}
-use mathlib.Core.Option.{Option, none, some, some-injective}
-use lib.ListN.{length, take, drop, length-append}
-use lib.Seq.{take_at, drop_at}
+use Rattle.std.proofs.Common.{◌≡◌, refl, sym, ap, ◌∙◌, ℕ, zero, suc, ◌+◌, ◌-◌, ◌/◌, ◌^◌, ◌≤◌, ◌<◌, pow-suc, le_refl, arith, List, [], ◌∷◌, ◌++◌, append_assoc, true, false, length, take, drop, length-append, take_at, drop_at, ℤ, pos, negsuc, le-leb, lt-ltb, le-ltb}
+use Rattle.std.proofs.Math.Option.{Option, none, some, some-injective}
 use lib.Signed.{mag}
-use lib.IntN.{ℤ, pos, negsuc}
-use borrow.Author.Tests.{le-leb, lt-ltb, le-ltb}
 use Rattle.item.specs.Tree.{Ranged, Shape, one, many, keyed, Node, Yaml, null, bool, int, str, seq, dict, end, ◌▸◌, done, pair, levels}
 use Rattle.item.specs.Encode.{le, number, head, item, flag, twos, encode}
 use Rattle.item.specs.Decode.{◌>>=◌, header, unflag, untwos, nothing, unint, unkey, decode_items, decode_entries, content_of, node, decode}

@@ -2,16 +2,11 @@
 --     sets-append     a run, and then a run right behind it, is one run
 --     sets-before     a run, and then a run right before it, is one run
 --     sets-next       a run of a list's front, and then its next element, is a run of the longer front
---     sets-item       a header, and then its content behind it, is the item
+--     sets_item       a header, and then its content behind it, is the item
 -- None of the first three asks that the run lies within the list. Assumes nothing.
-use mathlib.Core.Path.{◌≡◌, refl, sym, ap, ◌∙◌}
-use mathlib.Core.List.{List, [], ◌∷◌, ◌++◌}
-use Prim.Native.Nat.{ℕ, suc, ◌+◌, ◌≤◌, ◌<◌}
-use native.Mathlib.Nat.{add-zero, add-suc, suc-add}
-use native.Mathlib.Numerals.{add-one}
-use native.Mathlib.Omega.{arith}
-use lib.ListN.{length, set, take, get_or}
-use lib.Seq.{sets, set_comm, take-suc, length-take-le}
+use Rattle.std.proofs.Common.{◌≡◌, refl, sym, ap, ◌∙◌, List, [], ◌∷◌, ◌++◌, ℕ, suc, ◌+◌, ◌≤◌, ◌<◌, add-zero, add-suc, suc-add, add-one, arith, length, set, take, get_or, take-suc, length-take-le}
+use Rattle.std.proofs.lemmas.List.Edits.{sets}
+use Rattle.std.proofs.lemmas.List.{set_comm}
 use Rattle.item.specs.Encode.{head, item}
 use Rattle.item.proofs.Size.{head-length}
 
@@ -40,8 +35,8 @@ sets-next l s at i h =
     ∙ sets-append (take i s) (get_or s i 0 ∷ []) l at
     ∙ rw (add-one, take-suc s i 0 h)
 
-pub sets-item : (l : List ℕ) (at k : ℕ) (c : List ℕ) → sets (sets l at (head k (length c))) (at + 6) c ≡ sets l at (item k c)
+pub sets_item : (l : List ℕ) (at k : ℕ) (c : List ℕ) → sets (sets l at (head k (length c))) (at + 6) c ≡ sets l at (item k c)
 unfolding item
-sets-item l at k c =
+sets_item l at k c =
     ap (λ (n : ℕ). sets (sets l at (head k (length c))) (at + n) c) (sym (head-length k (length c)))
     ∙ sets-append (head k (length c)) c l at

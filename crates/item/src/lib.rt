@@ -8,14 +8,16 @@ ghost use Rattle.item.specs.Tree.{null, bool, int, str};
 ghost use Rattle.item.specs.Encode.{le, number, head, twos, signed, encode};
 ghost use Rattle.item.specs.Places.{header_at};
 
+mod encoded;
 mod walk;
 
-pub use walk::Items;
+pub use encoded::{Encoded, Part};
+pub use walk::{Items, Placed, Walk};
 
-// Of a lent output at most so many bytes count, and a record has at most so many.
+/// Of a lent output at most so many bytes count, and a record has at most so many.
 pub const LIMIT: usize = 1048576;
 
-// The kinds of items: of trees, and those that only a record has.
+/// The kinds of items: of trees, and those that only a record has.
 #[derive(Clone, Copy, Debug, PartialEq, Eq)]
 pub enum Kind {
     Null = 0,
@@ -30,7 +32,7 @@ pub enum Kind {
     Step = 19,
 }
 
-// A number that no kind has.
+/// A number that no kind has.
 #[derive(Clone, Copy, Debug, PartialEq, Eq)]
 pub struct UnknownKind;
 
@@ -59,7 +61,7 @@ impl TryFrom<usize> for Kind {
     }
 }
 
-// An item, by its places: its content is the part from `from` to `to`. Bytes from outside may have any kind.
+/// An item, by its places: its content is the part from `from` to `to`. Bytes from outside may have any kind.
 #[derive(Clone, Copy, Debug, PartialEq, Eq)]
 pub struct Item {
     pub kind: usize,
@@ -67,30 +69,31 @@ pub struct Item {
     pub to: usize,
 }
 
-// Why no item stands at a place.
+/// Why no item stands at a place.
 #[derive(Clone, Copy, Debug, PartialEq, Eq)]
 pub enum Broken {
-    // Fewer bytes than a header has.
+    /// Fewer bytes than a header has.
     Cut,
-    // A content length that runs past the end.
+    /// A content length that runs past the end.
     PastEnd,
 }
 
-// An integer, by its sign and its magnitude.
+/// An integer, by its sign and its magnitude.
 #[derive(Clone, Copy, Debug, PartialEq, Eq)]
 pub struct Integer {
     pub negative: bool,
     pub magnitude: u64,
 }
 
-// A place that was looked for: an enum of its own, so that a search says `Found::At(place)` where it is taken apart.
+/// A place that was looked for.
+// An enum of its own, so that a search says `Found::At(place)` where it is taken apart.
 #[derive(Clone, Copy, Debug, PartialEq, Eq)]
 pub enum Found {
     At(usize),
     Nothing,
 }
 
-// `kind` is a number, as a header can have any of 16 bits.
+/// Six bytes at `at`, for a content of `size` bytes. `kind` is a number, as a header can have any of 16 bits.
 pub fn put_header(out: &mut [u8], at: usize, kind: usize, size: usize)
     requires { (at + 6 ≤ length out.old) × (kind < 2 ^ 16) × (size < 2 ^ 32) }
     ensures { out.new ≡ sets out.old at (head kind size) }
@@ -99,6 +102,7 @@ pub fn put_header(out: &mut [u8], at: usize, kind: usize, size: usize)
     out[at + 4..at + 6].copy_from_slice(&(kind as u16).to_le_bytes());
 }
 
+/// Six bytes.
 pub fn put_null(out: &mut [u8], at: usize)
     requires { at + 6 ≤ length out.old }
     ensures { out.new ≡ sets out.old at (encode null) }
@@ -106,6 +110,7 @@ pub fn put_null(out: &mut [u8], at: usize)
     put_header(out, at, Kind::Null as usize, 0);
 }
 
+/// Seven bytes.
 pub fn put_bool(out: &mut [u8], at: usize, value: bool)
     requires { at + 7 ≤ length out.old }
     ensures { out.new ≡ sets out.old at (encode (bool value)) }
@@ -115,6 +120,7 @@ pub fn put_bool(out: &mut [u8], at: usize, value: bool)
 }
 
 // The bits of an integer of 64 bits.
+#[tactic(auto, unfolding(crate::specs::Encode::twos, crate::specs::Encode::signed))]
 fn twos_complement(n: Integer) -> u64
     ensures { result ≡ twos (signed n.negative n.magnitude) }
 {
@@ -125,6 +131,7 @@ fn twos_complement(n: Integer) -> u64
     }
 }
 
+/// Fourteen bytes.
 pub fn put_int(out: &mut [u8], at: usize, n: Integer)
     requires { at + 14 ≤ length out.old }
     ensures { out.new ≡ sets out.old at (encode (int (signed n.negative n.magnitude))) }
@@ -133,6 +140,7 @@ pub fn put_int(out: &mut [u8], at: usize, n: Integer)
     out[at + 6..at + 14].copy_from_slice(&twos_complement(n).to_le_bytes());
 }
 
+/// All bytes of `s`, stored from `at` on.
 // A loop, since libraries call no `memcpy`.
 pub fn copy(out: &mut [u8], at: usize, s: &[u8])
     requires { at + length s.now ≤ length out.old }
@@ -143,6 +151,8 @@ pub fn copy(out: &mut [u8], at: usize, s: &[u8])
     }
 }
 
+/// Six bytes more than the string has.
+#[tactic(auto, using(crate::proofs::Runs::sets_item), unfolding(crate::specs::Encode::encode))]
 pub fn put_string(out: &mut [u8], at: usize, s: &[u8])
     requires { (at + 6 + length s.now ≤ length out.old) × (length s.now < 2 ^ 32) }
     ensures { out.new ≡ sets out.old at (encode (str s.now)) }
@@ -151,6 +161,7 @@ pub fn put_string(out: &mut [u8], at: usize, s: &[u8])
     copy(out, at + 6, s);
 }
 
+#[tactic(auto, using(crate::proofs::HeaderPlaces::four_at))]
 fn size_at(s: &[u8], at: usize) -> usize
     requires { at + 4 ≤ length s.now }
     ensures { (result ≡ number (take 4 (drop at s.now))) × (result < 2 ^ 32) }
@@ -158,6 +169,7 @@ fn size_at(s: &[u8], at: usize) -> usize
     u32::from_le_bytes([s[at], s[at + 1], s[at + 2], s[at + 3]]) as usize
 }
 
+#[tactic(auto, using(crate::proofs::HeaderPlaces::two_at))]
 fn kind_at(s: &[u8], at: usize) -> usize
     requires { at + 2 ≤ length s.now }
     ensures { result ≡ number (take 2 (drop at s.now)) }
@@ -165,7 +177,8 @@ fn kind_at(s: &[u8], at: usize) -> usize
     u16::from_le_bytes([s[at], s[at + 1]]) as usize
 }
 
-// Any place of any bytes.
+/// The item that begins at `at`: any place of any bytes.
+#[tactic(auto, using(crate::proofs::HeaderPlaces::at_cut, crate::proofs::HeaderPlaces::at_past, crate::proofs::HeaderPlaces::at_item))]
 pub fn header_at(s: &[u8], at: usize) -> Result<Item, Broken>
     ensures value { result ≡ header_at s.now at }
     ensures inside { IfOk result (λ item. (item.from ≡ at + 6) × (item.from ≤ item.to) × (item.to ≤ length s.now)) }
@@ -185,6 +198,7 @@ pub fn header_at(s: &[u8], at: usize) -> Result<Item, Broken>
     })
 }
 
+/// Whether parts of one length are the same bytes.
 // From the end, since long keys are mostly alike at their beginnings; a loop, since libraries call no `memcmp`.
 pub fn equal_bytes(a: &[u8], b: &[u8]) -> bool
     requires { length a.now ≡ length b.now }
@@ -198,6 +212,8 @@ pub fn equal_bytes(a: &[u8], b: &[u8]) -> bool
     true
 }
 
+/// Whether two parts are the same bytes, of whatever length.
+#[tactic(auto, using(crate::proofs::Same::same_length))]
 pub fn same_bytes(a: &[u8], b: &[u8]) -> bool
     ensures { result ≡ same a.now b.now }
 {

@@ -1,14 +1,8 @@
 -- How the lines of a text end: a blank one stands before one of its indentation, and any other one ends in a byte other than a
 -- newline. So the table of a text's lines is ready to be read. Assumes nothing.
 use Rattle.std.specs.Prelude.{if◌then◌else◌}
-use mathlib.Core.Path.{◌≡◌, refl, sym, ap, ◌∙◌, subst}
-use Prim.Native.Nat.{ℕ, zero, suc, ◌-◌, ◌≤◌}
-use mathlib.Core.List.{List, [], ◌∷◌, ◌++◌, append_assoc}
-use mathlib.Core.Bool.{Bool, true, false, false≢true}
-use lib.Dec.{ltb}
-use lib.ListN.{length, take, drop}
-use native.Mathlib.Omega.{arith}
-use lib.Seq.{length-take-le}
+use Rattle.std.proofs.Common.{◌≡◌, refl, sym, ap, ◌∙◌, subst, ℕ, zero, suc, ◌-◌, ◌≤◌, List, [], ◌∷◌, ◌++◌, append_assoc, Bool, true, false, ltb, length, take, drop, arith, length-take-le}
+use Rattle.std.proofs.Math.Bool.{false≢true}
 use Rattle.std.proofs.lemmas.List.{length-map}
 use Rattle.refusal.specs.Base.{good, maybe, empty, ch}
 use Rattle.refusal.proofs.Tools.{good-inj, refused≢good, bound}

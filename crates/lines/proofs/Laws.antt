@@ -1,38 +1,31 @@
 -- What one byte more tells of the definitions, for the scanners; and what holds of the lines that they cut out. Assumes nothing.
 use Rattle.std.specs.Prelude.{if◌then◌else◌}
-use mathlib.Core.Path.{◌≡◌, refl, sym, ap, ◌∙◌}
-use Prim.Native.Nat.{ℕ, zero, suc, ◌+◌, ◌-◌, ◌≤◌, ◌<◌}
-use native.Mathlib.Numerals.{add-one}
-use native.Mathlib.Omega.{arith}
-use mathlib.Core.List.{List, [], ◌∷◌, ◌++◌}
-use mathlib.Core.Bool.{Bool, true, false, ◌&&◌, ◌||◌, false≢true, and-false, or_assoc, or-false}
-use mathlib.Core.Option.{some, none}
-use lib.Dec.{eqb, leb, ltb}
-use lib.ListN.{length, take, drop, get_or, drop_of_length-le}
-use lib.Seq.{drop-cons, take-add}
-use borrow.Author.Tests.{eq-eqb, ne_eqb, eqb-true, eqb-false, leb-true, leb-false, ltb-true, ltb-false}
+use Rattle.std.proofs.Common.{◌≡◌, refl, sym, ap, ◌∙◌, ℕ, zero, suc, ◌+◌, ◌-◌, ◌≤◌, ◌<◌, add-one, arith, List, [], ◌∷◌, ◌++◌, Bool, true, false, ◌&&◌, ◌||◌, eqb, leb, ltb, length, take, drop, get_or, drop_of_length-le, drop-cons, take-add, get_or-drop, eq-eqb, ne_eqb, eqb-true, leb-true, leb-false, ltb-true, ltb-false, lt-ltb, le-ltb}
+use Rattle.std.proofs.Math.Bool.{false≢true, and-false, or_assoc, or-false}
+use Rattle.std.proofs.Math.Option.{some, none}
 use Rattle.std.specs.Cmp.Lexicographic.{pointwise}
 use Rattle.refusal.specs.Base.{maybe, ch, bytes, same, ends_with}
-use Rattle.item.proofs.Same.{same_length}
+use Rattle.item.proofs.Same.{same-ne, same_length}
 use Rattle.utf8.specs.Utf8.{within}
 use Rattle.utf8.specs.Part.{part}
 use Rattle.utf8.specs.White.{white1, white2, in2000, white3, white_at, white_len, leading, leading_from, trim_start, all_white}
+use Rattle.utf8.specs.Places.{First}
+use Rattle.utf8.proofs.Places.{counts, found_or, kept_to}
 use Rattle.utf8.proofs.Laws.{part-cons, part-empty, leading-none, leading-on}
 use Rattle.lines.specs.declared.Place.{Place}
 use Rattle.lines.specs.declared.Place.TheVariants.{Fresh, Plain, Single, Double, Hidden}
-use Rattle.lines.specs.Lines.{indent_of, has_tab, tabbed, starts_comment, place_after, uncommented, strip_comment, is_marker}
+use Rattle.lines.specs.Lines.{indent_of, has_tab, tabbed, starts_comment, place_after, uncommented, strip_comment, is_marker, opens_literal}
 use Rattle.lines.specs.Dash.{dashed}
 use Rattle.lines.specs.Places.{Lacks, until_newline}
 
 -- ---- parts without a byte
 
-module _ (s : List ℕ) (i b : ℕ) where
-  pub lacks-more : (j m : ℕ) → m ≡ j + 1 → Lacks s i j b → (get_or s j 0 ≡ b → ⊥) → Lacks s i m b
-  lacks-more j m e f n k l h q = go (eqb k j) refl
-    where
-      go : (x : Bool) → eqb k j ≡ x → ⊥
-      go true p = n (ap (λ (a : ℕ). get_or s a 0) (sym (eqb-true k j p)) ∙ q)
-      go false p = f k l (omega (arith, eqb-false k j p)) q
+pub lacks-both : (s : List ℕ) (b i j m : ℕ) → Lacks s i j b → Lacks s j m b → Lacks s i m b
+lacks-both s b i j m f g k l h = go (ltb k j) refl
+  where
+    go : (x : Bool) → ltb k j ≡ x → get_or s k 0 ≡ b → ⊥
+    go true e = f k l (ltb-true k j e)
+    go false e = g k (ltb-false k j e) h
 
 -- ---- newlines
 
@@ -51,15 +44,9 @@ module _ (s : List ℕ) (i : ℕ) where
 
 -- the place that a search for a newline finds
 pub newline-found : (s : List ℕ) (at r : ℕ) → at ≤ r → r ≤ length s → Lacks s at r (ch "\n") → (r < length s → get_or s r 0 ≡ ch "\n") → r ≡ at + until_newline (drop at s)
-newline-found s at r l h f g = omega (arith, over (r - at) at (omega arith) f, ends (ltb r (length s)) refl)
-  where
-    over : (n i : ℕ) → i + n ≡ r → Lacks s i r (ch "\n") → until_newline (drop i s) ≡ n + until_newline (drop r s)
-    over zero i e k = let z : i ≡ r = omega arith in rw z (omega arith)
-    over (suc n) i e k = omega (arith, newline-on s i (omega arith) (k i (omega arith) (omega arith)), over n (i + 1) (omega arith) (λ j a. k j (omega arith)))
-
-    ends : (x : Bool) → ltb r (length s) ≡ x → until_newline (drop r s) ≡ 0
-    ends true e = let m : r < length s = ltb-true r (length s) e in newline-here s r m (g m)
-    ends false e = newline-none s r (ltb-false r (length s) e)
+newline-found s at r l h f g =
+    counts (λ k. until_newline (drop k s)) (record { low = l; high = h; before = f; here = g }) (λ k h n. newline-on s k h n) (λ k h e. newline-here s k h e)
+    (newline-none s (length s) (omega arith))
 
 -- ---- indentation and comments
 
@@ -90,6 +77,12 @@ module _ (s : List ℕ) (e : ℕ) where
           → length (uncommented p (part s i e)) ≡ suc (length (uncommented (place_after p (get_or s i 0)) (part s (i + 1) e)))
       unfolding uncommented
       comment-on t = rw (part-cons s i e h k, t)
+
+-- the place that a search for another byte than a space finds
+pub indent-found : (s : List ℕ) (from to r : ℕ) → First (λ k. get_or s k 0 ≡ 32 → ⊥) (λ k. get_or s k 0 ≡ 32) from to r → to ≤ length s
+    → r ≡ from + indent_of (part s from to)
+indent-found s from to r f h =
+    counts (λ k. indent_of (part s k to)) f (λ k l e. indent-on s to k l h e) (λ k l e. indent-here s to k l h e) (indent-none s to)
 
 -- a part without `#` has no comment
 starts_other : (p : Place) (b : ℕ) → (b ≡ ch "#" → ⊥) → starts_comment p b ≡ false
@@ -166,17 +159,12 @@ tab-here (b ∷ s) n e =
 -- what a search for a tab finds
 pub tab-search : (s : List ℕ) (a e r : ℕ) → a ≤ r → r ≤ e → e ≤ length s → Lacks s a r (ch "\t") → (r < e → get_or s r 0 ≡ ch "\t") → ltb r e ≡ has_tab (part s a e)
 unfolding has_tab
-tab-search s a e r l h m f g = over (r - a) a (omega arith) f
-  where
-    ends : (x : Bool) → ltb r e ≡ x → x ≡ has_tab (part s r e)
-    ends true p = let k : r < e = ltb-true r e p in rw (part-cons s r e k m, eq-eqb (get_or s r 0) (ch "\t") (g k))
-    ends false p = let k : r ≡ e = omega (arith, ltb-false r e p) in rw (k, part-empty s e)
-
-    over : (n i : ℕ) → i + n ≡ r → Lacks s i r (ch "\t") → ltb r e ≡ has_tab (part s i e)
-    over zero i q k = let z : i ≡ r = omega arith in rw z (ends (ltb r e) refl)
-    over (suc n) i q k =
-        let z : i < e = omega arith in
-        over n (i + 1) (omega arith) (λ j b. k j (omega arith)) ∙ rw (part-cons s i e z m, ne_eqb (get_or s i 0) (ch "\t") (k i (omega arith) (omega arith)))
+tab-search s a e r l h m f g =
+    let p : First (λ k. get_or s k 0 ≡ ch "\t") (λ k. get_or s k 0 ≡ ch "\t" → ⊥) a e r = record { low = l; high = h; before = f; here = g } in
+    found_or (λ k. ltb k e ≡ has_tab (part s k e)) p
+    (λ k i y. lt-ltb k e i ∙ sym (rw (part-cons s k e i m, eq-eqb (get_or s k 0) (ch "\t") y)))
+    (le-ltb e e (omega arith) ∙ sym (rw (part-empty s e)))
+    ∙ sym (kept_to (λ k. has_tab (part s k e)) p (λ k i n. rw (part-cons s k e i m, ne_eqb (get_or s k 0) (ch "\t") n)))
 
 -- no byte of a white space character is a tab if its first is none
 front-no-tab : (s : List ℕ) → (get_or s 0 0 ≡ ch "\t" → ⊥) → has_tab (take (white_len s) s) ≡ false
@@ -285,6 +273,33 @@ ends_text p t = pointwise_same p (drop (length t - length p) t) ∙ go (leb (len
         let m : length t < length p = leb-false (length p) (length t) e in
         let d : length t - length p ≡ 0 = omega arith in
         rw (d, ends-short p t m) (same_length p t (λ q. omega arith))
+
+-- a text ends in `q` only where it has the last byte of `q`
+ends_last : (q t : List ℕ) → 0 < length q → (get_or t (length t - 1) 0 ≡ get_or q (length q - 1) 0 → ⊥) → ends_with q t ≡ false
+ends_last q t h n = go (leb (length q) (length t)) refl
+  where
+    go : (x : Bool) → leb (length q) (length t) ≡ x → ends_with q t ≡ false
+    go true e =
+        let m : length q ≤ length t = leb-true (length q) (length t) e in
+        let k : ℕ = length t - length q in
+        let z : k + (length q - 1) ≡ length t - 1 = omega arith in
+        ends_at q t m
+        ∙ same-ne q (drop k t) (λ d. n (ap (λ i. get_or t i 0) (sym z) ∙ sym (get_or-drop k t (length q - 1) 0) ∙ ap (λ (l : List ℕ). get_or l (length q - 1) 0) (sym d)))
+    go false e = ends-short q t (leb-false (length q) (length t) e)
+
+-- what opens a literal, by the last byte
+module _ (t : List ℕ) where
+  pub opens_bar : get_or t (length t - 1) 0 ≡ 124 → pointwise eqb (bytes ": |") (drop (length t - 3) t) ≡ opens_literal t
+  unfolding opens_literal bytes
+  opens_bar e = ends_text (bytes ": |") t ∙ sym (rw (ends_last (bytes ": |-") t (omega arith) (λ q. omega (arith, e, q))) (or-false (ends_with (bytes ": |") t)))
+
+  pub opens_dash : get_or t (length t - 1) 0 ≡ 45 → pointwise eqb (bytes ": |-") (drop (length t - 4) t) ≡ opens_literal t
+  unfolding opens_literal bytes
+  opens_dash e = ends_text (bytes ": |-") t ∙ sym (rw (ends_last (bytes ": |") t (omega arith) (λ q. omega (arith, e, q))) refl)
+
+  pub opens_none : (get_or t (length t - 1) 0 ≡ 124 → ⊥) → (get_or t (length t - 1) 0 ≡ 45 → ⊥) → false ≡ opens_literal t
+  unfolding opens_literal bytes
+  opens_none a b = sym (rw (ends_last (bytes ": |") t (omega arith) a, ends_last (bytes ": |-") t (omega arith) b) refl)
 
 -- ---- dashes
 

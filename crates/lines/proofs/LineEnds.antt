@@ -1,14 +1,7 @@
 -- Laws of where the lines of a text begin and end. Assumes nothing.
 use Rattle.std.specs.Prelude.{if◌then◌else◌}
-use mathlib.Core.Path.{◌≡◌, refl, sym, ap, ◌∙◌}
-use Prim.Native.Nat.{ℕ, zero, suc, ◌+◌, ◌-◌, ◌≤◌, ◌<◌}
-use native.Mathlib.Omega.{arith}
-use mathlib.Core.List.{List, [], ◌∷◌}
-use mathlib.Core.Bool.{Bool, true, false, ◌&&◌, false≢true}
-use lib.Dec.{eqb}
-use lib.ListN.{length, take, drop, get_or, length-drop}
-use lib.Seq.{drop-drop, get_or-drop}
-use borrow.Author.Tests.{eq-eqb, ne_eqb}
+use Rattle.std.proofs.Common.{◌≡◌, refl, sym, ap, ◌∙◌, ℕ, zero, suc, ◌+◌, ◌-◌, ◌≤◌, ◌<◌, arith, List, [], ◌∷◌, Bool, true, false, ◌&&◌, eqb, length, take, drop, get_or, length-drop, drop-drop, get_or-drop, eq-eqb, ne_eqb}
+use Rattle.std.proofs.Math.Bool.{false≢true}
 use Rattle.refusal.specs.Base.{ch}
 use Rattle.item.specs.Encode.{flag}
 use Rattle.lines.specs.Lines.{begins_newline, prepend, split_lines}

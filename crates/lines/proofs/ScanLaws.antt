@@ -1,21 +1,13 @@
 -- What a line of the text gives, by its places. Assumes nothing.
 use Rattle.std.specs.Prelude.{Result, Ok, Err, if◌then◌else◌}
 use Rattle.refusal.specs.declared.Refusal.{Refusal}
-use mathlib.Core.Path.{◌≡◌, refl, sym, ap, ◌∙◌}
-use Prim.Native.Nat.{ℕ, suc, ◌+◌, ◌-◌, ◌≤◌, ◌<◌}
-use native.Mathlib.Numerals.{add-one}
-use native.Mathlib.Omega.{arith}
-use mathlib.Core.List.{List, [], ◌∷◌, ◌++◌, append_assoc, append-nil}
-use mathlib.Core.Bool.{Bool, true, false}
-use lib.Dec.{ltb}
-use lib.ListN.{length, take, drop, set, drop_of_length-le}
+use Rattle.std.proofs.Common.{◌≡◌, refl, sym, ap, ◌∙◌, ℕ, suc, ◌+◌, ◌-◌, ◌≤◌, ◌<◌, add-one, arith, List, [], ◌∷◌, ◌++◌, append_assoc, append-nil, Bool, true, false, ltb, length, take, drop, set, drop_of_length-le, lt-ltb, le-ltb}
 use Rattle.lines.specs.declared.Row.{Row}
-use borrow.Author.Tests.{lt-ltb, le-ltb}
 use Rattle.refusal.specs.Base.{Answer, good, refused, ◌>>=◌, bytes, same, ends_with, empty}
 use Rattle.refusal.specs.Told.{told_of, refusal}
 use Rattle.utf8.specs.Part.{part}
-use Rattle.utf8.specs.White.{all_white, trim_end}
-use Rattle.utf8.proofs.Laws.{part-empty, part-cons, part-drop, part-take, end-part}
+use Rattle.utf8.specs.White.{leading, all_white, trim_end}
+use Rattle.utf8.proofs.Laws.{part-white, part-not-white, part-empty, part-cons, part-drop, part-take, end-part}
 use Rattle.lines.specs.declared.Raw.{Raw}
 use Rattle.lines.specs.declared.Literal.{Literal}
 use Rattle.lines.specs.declared.Literal.TheVariants.{Closed, Under}
@@ -28,9 +20,9 @@ use Rattle.lines.specs.Table.{row_of, table_lines, AllLieIn, behind, Took, Takes
 use Rattle.lines.proofs.Laws.{strip-take, indent-tab, indent-white}
 use Rattle.lines.proofs.TableLaws.{took-none, took-both, took-entry, collect-bad, collect-full, collect-blanks}
 
-pub way-closed : (t : List ℕ) → way_of Closed t ≡ Normal
+pub way_closed : (lit : Literal) (t : List ℕ) → lit ≡ Closed → Normal ≡ way_of lit t
 unfolding way_of
-way-closed t = refl
+way_closed lit t e = rw e
 
 -- the same events before and after, written in another way
 pub took_of : {text : List ℕ} {t u : List Row} {c d : ℕ} {es fs gs hs : List Event} → es ≡ fs → gs ≡ hs → Took text t u c d fs hs → Took text t u c d es gs
@@ -173,18 +165,24 @@ module _ (text : List ℕ) (raw : Raw) (ok : IsRaw text raw) where
 
   -- ---- how it is read, by its places
 
-  pub way-blank : (under : ℕ) → all_white (raw_text text raw) ≡ true → way_of (Under under) (raw_text text raw) ≡ Blank under
-  unfolding way_of
-  way-blank under w = rw w
-
-  module _ (under : ℕ) (w : all_white (raw_text text raw) ≡ false) where
-    pub way-shallow : start - raw.from ≤ under → way_of (Under under) (raw_text text raw) ≡ Normal
+  module _ (lit : Literal) (under : ℕ) (e : lit ≡ Under under) where
+    pub way_blank : start + leading inner ≡ raw.to → Blank under ≡ way_of lit (raw_text text raw)
     unfolding way_of
-    way-shallow h = rw (w, le-ltb under (indent_of (raw_text text raw)) (omega (arith, raw-indent)))
+    way_blank h =
+        let w : all_white (raw_text text raw) ≡ true = sym raw-white ∙ part-white text start raw.to ok.low ok.high h in
+        rw (e, w)
 
-    pub way-body : under < start - raw.from → way_of (Under under) (raw_text text raw) ≡ Body under
-    unfolding way_of
-    way-body h = rw (w, lt-ltb under (indent_of (raw_text text raw)) (omega (arith, raw-indent)))
+    module _ (h : start + leading inner ≡ raw.to → ⊥) where
+      other : all_white (raw_text text raw) ≡ false
+      other = sym raw-white ∙ part-not-white text start raw.to ok.low ok.high h
+
+      pub way_shallow : start - raw.from ≤ under → Normal ≡ way_of lit (raw_text text raw)
+      unfolding way_of
+      way_shallow k = rw (e, other, le-ltb under (indent_of (raw_text text raw)) (omega (arith, raw-indent)))
+
+      pub way_body : under < start - raw.from → Body under ≡ way_of lit (raw_text text raw)
+      unfolding way_of
+      way_body k = rw (e, other, lt-ltb under (indent_of (raw_text text raw)) (omega (arith, raw-indent)))
 
 -- ---- the whole text
 

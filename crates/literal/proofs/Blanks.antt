@@ -1,14 +1,6 @@
 -- Every blank line that section 1 of document 01 keeps in a literal gives a bare newline: before a deeper body line by P3 of document 02, else
 -- since it has no extra spaces. Assumes nothing.
-use Rattle.std.specs.Prelude.{if◌then◌else◌}
-use mathlib.Core.Path.{◌≡◌, refl, ap, ◌∙◌, subst}
-use Prim.Native.Nat.{ℕ, ◌-◌, ◌<◌}
-use native.Mathlib.Omega.{arith}
-use mathlib.Core.List.{List, [], ◌∷◌, ◌++◌}
-use mathlib.Core.Bool.{Bool, true, false, ◌&&◌}
-use lib.Dec.{ltb}
-use lib.ListN.{length, drop, replicate, length-append}
-use borrow.Author.Tests.{ltb-false}
+use Rattle.std.proofs.Common.{if◌then◌else◌, ◌≡◌, refl, ap, ◌∙◌, subst, ℕ, ◌-◌, ◌<◌, arith, List, [], ◌∷◌, ◌++◌, Bool, true, false, ◌&&◌, ltb, length, drop, replicate, length-append, ltb-false}
 use Rattle.refusal.specs.Base.{good, ch, empty}
 use Rattle.lines.specs.Lines.{Line, significant_lines}
 use Rattle.lines.specs.Ready.{Closed, Ended, blank, full}

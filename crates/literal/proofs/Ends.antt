@@ -1,14 +1,7 @@
 -- A literal ends in one newline behind another byte, as its lines do, and `|-` drops just that one. Assumes nothing.
-use Rattle.std.specs.Prelude.{if◌then◌else◌}
-use mathlib.Core.Path.{◌≡◌, refl, sym, ap, ◌∙◌, subst}
-use Prim.Native.Nat.{ℕ, ◌-◌, ◌≤◌, ◌<◌}
-use native.Mathlib.Omega.{arith}
-use mathlib.Core.List.{List, [], ◌∷◌, ◌++◌, append_assoc, append-nil}
-use mathlib.Core.Bool.{Bool, true, false, and-false}
-use lib.Dec.{eqb, leb}
-use lib.ListN.{length, take, replicate, length-append}
-use lib.Seq.{take_at, take-length}
-use borrow.Author.Tests.{ne_eqb, leb-true, leb-false}
+use Rattle.std.proofs.Common.{if◌then◌else◌, ◌≡◌, refl, sym, ap, ◌∙◌, subst, ℕ, ◌-◌, ◌≤◌, ◌<◌, arith, List, [], ◌∷◌, ◌++◌, append_assoc, append-nil, Bool, true, false, eqb, leb, length, take, replicate, length-append, take_at, ne_eqb, leb-true, leb-false}
+use Rattle.std.proofs.Math.Bool.{and-false}
+use Rattle.std.proofs.Math.Seq.{take-length}
 use Rattle.refusal.specs.Base.{ch}
 use Rattle.lines.specs.Lines.{Line}
 use Rattle.lines.specs.Ready.{Closed, Ended, none, blank, full}

@@ -1,19 +1,15 @@
 -- What one line more tells of a literal, and what is written for it. Assumes nothing.
-use mathlib.Core.Path.{◌≡◌, refl, sym, ap, ◌∙◌, subst}
-use Prim.Native.Nat.{ℕ, ◌+◌, ◌*◌, ◌-◌, ◌≤◌, ◌<◌}
-use native.Mathlib.Omega.{arith}
-use mathlib.Core.List.{List, [], ◌∷◌, ◌++◌, append_assoc, append-nil}
-use borrow.Rule.Slice.PartMut.{put_mid}
-use lib.ListN.{length, take, drop, replicate, length-append, length-replicate}
-use lib.Seq.{sets, sets-eq, drop-drop, take_all, take-append-add, take_at, take-nil}
-use borrow.Author.Tests.{ne_eqb, le-leb, lt-leb}
+use Rattle.std.proofs.Common.{◌≡◌, refl, sym, ap, ◌∙◌, subst, ℕ, ◌+◌, ◌*◌, ◌-◌, ◌≤◌, ◌<◌, arith, List, [], ◌∷◌, ◌++◌, append_assoc, append-nil, length, take, drop, replicate, length-append, take_all, take_at, ne_eqb, le-leb}
+use Rattle.std.proofs.lemmas.List.{length-replicate}
+use Rattle.std.proofs.Math.Seq.{take-append-add}
+use Rattle.std.proofs.lemmas.Bool.{lt-leb}
 use Rattle.refusal.specs.Base.{ch, empty, good, refused, ◌>>=◌}
 use Rattle.item.specs.Tree.{str}
 use Rattle.item.specs.Encode.{encode, head}
 use Rattle.item.proofs.Size.{item-length}
 use Rattle.writer.specs.declared.Writer.{Writer}
 use Rattle.writer.specs.Writing.{cap_of, Appends}
-use Rattle.writer.proofs.Laws.{appends_none, appends_more, appends_item, len_appended}
+use Rattle.writer.proofs.Laws.{appends_more, appends_item, len_appended}
 use Rattle.lines.specs.Lines.{Line}
 use Rattle.lines.specs.Table.{line_at}
 use Rattle.lines.specs.Ready.{Ended, AreLines}
@@ -102,13 +98,6 @@ extent_of ls indent first i len b h k f none = record {
 
 -- ---- what is written
 
--- a part that is filled
-pub part_filled : (out ys : List ℕ) (at n v : ℕ) → at + n ≤ length out → ys ≡ replicate n v → put_mid at (at + n - at) out ys ≡ sets out at (replicate n v)
-part_filled out ys at n v h e =
-    let k : at + n - at ≡ n = omega arith in
-    let l : length (replicate n v) ≡ n = length-replicate n v in
-    rw (k, e, drop-drop n at out, sets-eq (replicate n v) out at (omega arith), l) (sym (append_assoc (take at out) (replicate n v) (drop (at + n) out)))
-
 -- a line: its spaces, its text, and its newline unless that would stand at `to`
 module _ (old out : Writer) (line : List ℕ) (spaces to : ℕ) where
   abbrev front : List ℕ
@@ -132,9 +121,6 @@ pub record Put (ls : List Line) (indent first i to : ℕ) (old now : Writer) : T
   pub front : List ℕ
   pub is : body_from ls indent first ≡ front ++ body_from ls indent i
   pub appends : Appends old now (take (to - old.used) front)
-
-pub put_start : (ls : List Line) (indent first to : ℕ) (old : Writer) → Put ls indent first first to old old
-put_start ls indent first to old = record { front = []; is = refl; appends = rw (take-nil (to - old.used)) (appends_none old) }
 
 module _ (ls : List Line) (indent first i to : ℕ) (old now : Writer) (v : Put ls indent first i to old now) where
   pub put_end : literal_lines indent (drop i ls) ≡ ([], drop i ls) → Appends old now (take (to - old.used) (body_from ls indent first))

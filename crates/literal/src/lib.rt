@@ -4,7 +4,7 @@
 ghost use Rattle.std.specs.Prelude.{◌≡◌, [], ◌∷◌, ◌++◌, ◌+◌, ◌-◌, ◌≤◌, ◌<◌, length, take, replicate, if◌then◌else◌};
 ghost use Rattle.refusal.specs.Base.{ch};
 ghost use Rattle.item.specs.Tree.{str};
-ghost use Rattle.writer.specs.Writing.{cap_of, room_of, Appends};
+ghost use Rattle.writer.specs.Writing.{cap_of, Appends};
 ghost use Rattle.lines.specs.Table.{line_at};
 ghost use Rattle.lines.specs.Ready.{AreLines};
 ghost use Rattle.literal.specs.Literal as definition;
@@ -16,7 +16,7 @@ use lines::Lines;
 use refusal::Refusal;
 use writer::Writer;
 
-// The body of a literal: the first line behind it, and how many bytes its lines give.
+/// The body of a literal: the first line behind it, and how many bytes its lines give.
 #[derive(Clone, Copy, Debug, PartialEq, Eq)]
 pub struct Body {
     pub next: usize,
@@ -53,16 +53,6 @@ fn extent(lines: &Lines<'_>, first: usize, indent: usize) -> Body
     Body { next: count, len }
 }
 
-fn put_spaces(n: usize, writer: &mut Writer<'_>)
-    requires { n ≤ room_of writer.old }
-    ensures { Appends writer.old writer.new (replicate n (ch " ")) }
-{
-    let at = writer.used;
-    let out = &mut *writer.out;
-    out[at..at + n].fill(b' ');
-    writer.used += n;
-}
-
 // A line of a literal, without its newline if that would stand at `to`.
 fn put_line(line: &[u8], spaces: usize, to: usize, writer: &mut Writer<'_>)
     requires line { writer.old.used + spaces + length line.now ≤ to }
@@ -70,7 +60,7 @@ fn put_line(line: &[u8], spaces: usize, to: usize, writer: &mut Writer<'_>)
     ensures { Appends writer.old writer.new
         (take (to - writer.old.used) (replicate spaces (ch " ") ++ line.now ++ (ch "\n" ∷ []))) }
 {
-    put_spaces(spaces, writer);
+    writer.fill(b' ', spaces);
     writer.put(line);
     if writer.used() < to {
         writer.push(b'\n');

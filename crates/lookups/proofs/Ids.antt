@@ -1,19 +1,12 @@
 -- The search for a step with an id, and which step it finds. Assumes nothing.
-use mathlib.Core.Path.{◌≡◌, refl, sym, ap, ◌∙◌}
-use Prim.Native.Nat.{ℕ, zero, suc, ◌+◌, ◌-◌, ◌^◌, ◌≤◌, ◌<◌}
-use native.Mathlib.Omega.{arith}
-use mathlib.Core.List.{List, [], ◌∷◌, map, nil≢cons}
-use mathlib.Core.Bool.{Bool, true, false, false≢true}
-use mathlib.Core.Option.{none, some}
-use lib.Dec.{ltb}
-use lib.ListN.{length, take, drop, get_or}
-use borrow.Author.Tests.{ltb-true, ltb-false}
+use Rattle.std.proofs.Common.{◌≡◌, refl, sym, ap, ◌∙◌, ℕ, zero, suc, ◌+◌, ◌-◌, ◌^◌, ◌≤◌, ◌<◌, Bool, true, false, ltb, List, [], ◌∷◌, map, length, take, drop, get_or, None, Some, arith, ltb-false, ltb-true}
+use Rattle.std.proofs.Math.Bool.{false≢true}
+use Rattle.std.proofs.Math.Option.{none, some}
 use Rattle.refusal.specs.Base.{Answer, good, maybe, same, empty}
 use Rattle.item.specs.Encode.{encode}
 use Rattle.item.proofs.Size.{item-length}
 use Rattle.item.proofs.Same.{same_refl, same-eq}
 use Rattle.entries.specs.Entries.{Stands, nth_item}
-use Rattle.std.specs.Prelude.{None, Some}
 use Rattle.entries.specs.declared.Span.{Span}
 use Rattle.entries.proofs.Standing.{stands-part, item-content}
 use Rattle.meaning.specs.Meaning.{Step}
@@ -28,10 +21,10 @@ use Rattle.lookups.proofs.Places.{part-front, part-shift}
 
 -- ---- one step's id
 
-pub no-id : (id : List ℕ) (st : Step) → length id ≡ 0 → false ≡ has_id id st
+pub no_id : (id : List ℕ) (st : Step) → length id ≡ 0 → false ≡ has_id id st
 unfolding has_id empty
-no-id [] st e = refl
-no-id (b ∷ id) st e = absurd (omega arith)
+no_id [] st e = refl
+no_id (b ∷ id) st e = absurd (omega arith)
 
 -- the second of the parts, which begin at `from`
 module _ {s : List ℕ} {at from : ℕ} (st : Step) (q : from ≡ at + 6) (h : Stands s at (step_item st)) (w : length s ≤ 2 ^ 20) where
@@ -43,8 +36,8 @@ module _ {s : List ℕ} {at from : ℕ} (st : Step) (q : from ≡ at + 6) (h : S
       let i : Stands s (span.start + 6) st.id = item-content 3 st.id p.stands in
       ap (λ (t : List ℕ). same t (b ∷ id)) (stands-part i (span.end - (span.start + 6)) (omega (arith, p.ends, item-length 3 st.id)))
 
-  pub second-there : {X : Type 0} → None ≡ nth_item s from 1 → X
-  second-there e = no_part st h w 1 (omega arith) (e ∙ ap (λ (k : ℕ). nth_item s k 1) q)
+  pub second_there : {X : Type 0} → None ≡ nth_item s from 1 → X
+  second_there e = no_part st h w 1 (omega arith) (e ∙ ap (λ (k : ℕ). nth_item s k 1) q)
 
 -- ---- the search
 
@@ -71,9 +64,9 @@ ids-start {from = from} ss h = record {
   place = λ i. let e : i ≡ 0 + i = omega arith in ap (part_at from (map step_item ss)) e;
 }
 
-pub ids-end : {s id : List ℕ} {from to at : ℕ} {ss : List Step} → Left s id from to at ss → to ≤ at → good nothing ≡ first_with id from ss
+pub ids_end : {s id : List ℕ} {from to at : ℕ} {ss : List Step} → Left s id from to at ss → to ≤ at → good nothing ≡ first_with id from ss
 unfolding number_of maybe
-ids-end {id = id} l h = sym (rw (sym l.number ∙ ap (number_of id (suc l.before)) (none_left l.rest h l.lie)))
+ids_end {id = id} l h = sym (rw (sym l.number ∙ ap (number_of id (suc l.before)) (none_left l.rest h l.lie)))
 
 module _ {s id : List ℕ} {from to at end : ℕ} {ss : List Step} (l : Left s id from to at ss) (first : FirstStep s at to l.rest end) where
   long : l.before + suc (length first.others) ≡ length ss
@@ -118,7 +111,7 @@ module _ {s id : List ℕ} {from to at end : ℕ} {ss : List Step} (l : Left s i
 in-id : (id : List ℕ) (st : Step) → has_id id st ≡ true → (id ≡ [] → ⊥) × (st.id ≡ id)
 unfolding has_id empty
 in-id [] st t = absurd (false≢true t)
-in-id (b ∷ id) st t = (λ e. nil≢cons (sym e), same-eq st.id (b ∷ id) t)
+in-id (b ∷ id) st t = (λ e. cc, same-eq st.id (b ∷ id) t)
 
 not-id : (id : List ℕ) (st : Step) → has_id id st ≡ false → (id ≡ [] → ⊥) → st.id ≡ id → ⊥
 unfolding has_id empty

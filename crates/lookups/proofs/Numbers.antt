@@ -1,13 +1,6 @@
 -- The steps of a record: all of them, the one with a number, and what stands beside a key of it. Assumes nothing.
-use mathlib.Core.Path.{◌≡◌, refl, sym, ap, ◌∙◌, subst}
-use Prim.Native.Nat.{ℕ, zero, suc, ◌+◌, ◌≤◌, ◌<◌}
-use native.Mathlib.Omega.{arith}
-use mathlib.Core.List.{List, [], ◌∷◌, map}
-use mathlib.Core.Bool.{Bool, true, false}
-use mathlib.Core.Option.{Option, none, some}
-use lib.Dec.{ltb}
-use lib.ListN.{length, get_or}
-use borrow.Author.Tests.{ltb-true, ltb-false}
+use Rattle.std.proofs.Common.{◌≡◌, refl, sym, ap, ◌∙◌, subst, ℕ, zero, suc, ◌+◌, ◌≤◌, ◌<◌, Bool, true, false, ltb, List, [], ◌∷◌, map, length, get_or, arith, ltb-false, ltb-true}
+use Rattle.std.proofs.Math.Option.{Option, none, some}
 use Rattle.refusal.specs.Base.{Answer, good, refused, ◌>>=◌, given, maybe, bytes, limit}
 use Rattle.refusal.proofs.Tools.{bound, gave, refused≢good, bind-cong}
 use Rattle.item.specs.Tree.{Yaml, Ranged}
@@ -16,7 +9,7 @@ use Rattle.entries.specs.Entries.{Stands}
 use Rattle.meaning.specs.Meaning.{Step, Meaning}
 use Rattle.meaning.specs.Record.{step_item}
 use Rattle.meaning.specs.Rules.{StepRules}
-use Rattle.value.proofs.Contents.{bytes_of}
+use Rattle.item.proofs.Exact.{bytes_of}
 use Rattle.value.proofs.Levels.{ranged}
 use Rattle.record.specs.Read.{meaning_in}
 use Rattle.record.specs.Jobs as job
@@ -24,7 +17,7 @@ use Rattle.record.specs.Jobs.{Found, nothing, part, opened, check_record, part_a
 use Rattle.record.proofs.Exact.{meaning-exact}
 use Rattle.record.proofs.Lookups.{Opened, length-steps, closed, step_is, numbered-in, numbered-out}
 use Rattle.record.proofs.Answers.{never-nothing}
-use Rattle.record.proofs.StepPlaces.{record-small, steps-stand, Last}
+use Rattle.record.proofs.StepPlaces.{record-small, steps-stand}
 use Rattle.lookups.specs.Lookups.{number_of, step_by_id, nth_step, numbered_step, value_in, item_part, value_by_key, times_in, times}
 use Rattle.lookups.proofs.Places.{part-front, part-shift, nth-stands, nth-kept}
 use Rattle.lookups.proofs.Ids.{first_with}
@@ -37,17 +30,17 @@ refusal-as {n = n} {l} {s} {n'} {l'} {s'} e = let x : n ≡ n' = cc e in let y :
 -- ---- all steps
 
 module _ {b : List ℕ} {n : ℕ} (o : Opened b n) where
-  pub by-id : (id : List ℕ) {r : Answer Found} {start end : ℕ} → Last o start end → r ≡ first_with id (start + 6) o.meaning.steps → r ≡ step_by_id b id
+  pub by-id : (id : List ℕ) {r : Answer Found} {from : ℕ} → from ≡ steps_start o.meaning → r ≡ first_with id from o.meaning.steps → r ≡ step_by_id b id
   unfolding step_by_id opened given maybe ◌>>=◌
-  by-id id w e = e ∙ ap (λ (i : ℕ). first_with id i o.meaning.steps) w.begins ∙ sym (rw o.is (go (number_of id 1 o.meaning.steps)))
+  by-id id at e = e ∙ ap (λ (i : ℕ). first_with id i o.meaning.steps) at ∙ sym (rw o.is (go (number_of id 1 o.meaning.steps)))
     where
       go : (k : Option ℕ) → maybe k (good nothing) (job.step b) ≡ maybe k (good nothing) (numbered (steps_start o.meaning) (map step_item o.meaning.steps))
       go none = refl
       go (some k) = step_is o k
 
-pub id-refused : (b id : List ℕ) {n l s : ℕ} → refused n l s ≡ check_record b → refused n l s ≡ step_by_id b id
+pub id_refused : (b id : List ℕ) {n l s : ℕ} → refused n l s ≡ check_record b → refused n l s ≡ step_by_id b id
 unfolding step_by_id
-id-refused b id e = closed b _ _ _ e _
+id_refused b id e = closed b _ _ _ e _
 
 -- ---- the step with a number
 
@@ -123,8 +116,8 @@ module _ (b : List ℕ) (number : ℕ) where
       bound (numbered_step m number) _ (part start end) q λ x u v.
       subst (Numbered b number) (cc v) (record { meaning = m; is = p; step = x.1; found = u; there = known b (bytes_of b small) number m x p u })
 
-  pub number-there : {X : Type 0} → good nothing ≡ job.step b number → X
-  number-there e =
+  pub number_there : good nothing ≡ job.step b number → ⊥
+  number_there e =
       bound (opened b) _ nothing (sym (e ∙ step-as b number)) λ m p q.
       bound (numbered_step m number) _ nothing q λ x u v.
       never-nothing (sym v)
@@ -142,9 +135,9 @@ module _ (b : List ℕ) (number : ℕ) where
       go (good m) e = inner (numbered_step m number) e
       go (refused i j k) e = refusal-as e
 
-  pub value-refused : (key : List ℕ) {n l s : ℕ} → refused n l s ≡ job.step b number → refused n l s ≡ value_by_key b number key
+  pub value_refused : (key : List ℕ) {n l s : ℕ} → refused n l s ≡ job.step b number → refused n l s ≡ value_by_key b number key
   unfolding value_by_key
-  value-refused key e = refused-on (λ x. good (step_part x)) _ (λ x. (step_part x, refl)) (e ∙ step-as b number)
+  value_refused key e = refused-on (λ x. good (step_part x)) _ (λ x. (step_part x, refl)) (e ∙ step-as b number)
 
   pub value-is : {start : ℕ} (key : List ℕ) {r : Answer Found} → (w : Numbered b number start) → r ≡ good (item_part (value_in key start w.step)) → r ≡ value_by_key b number key
   unfolding value_by_key ◌>>=◌
@@ -178,7 +171,7 @@ module _ (b : List ℕ) (number : ℕ) where
     where
       go : (o : Option (ℕ × Yaml)) → nothing ≡ item_part o → refused 38 0 number ≡ (given o 38 0 number >>= λ (x : ℕ × Yaml). times_in number x.1)
       go none e = refl
-      go (some x) e = let z : ◌≡◌ {A = ℕ} 0 1 = cc in absurd (omega arith)
+      go (some x) e = cc
 
   -- the value that was found
   pub record TimesAt (start : ℕ) : Type 0 where
@@ -199,7 +192,7 @@ module _ (b : List ℕ) (number : ℕ) where
       n = w.step_is
 
       go : (o : Option (ℕ × Yaml)) → value_in (bytes "times") w.at n.step ≡ o → part start end ≡ item_part o → TimesAt start
-      go none p e = let z : ◌≡◌ {A = ℕ} 0 1 = cc in absurd (omega arith)
+      go none p e = cc
       go (some x) p e =
           let a : x.0 ≡ start = cc in
           record {

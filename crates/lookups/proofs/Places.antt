@@ -1,10 +1,6 @@
 -- Where the parts stand that are one behind another, and a step by how many stand before it. Assumes nothing.
-use mathlib.Core.Path.{◌≡◌, refl, ap, ◌∙◌, subst}
-use Prim.Native.Nat.{ℕ, zero, suc, ◌+◌, ◌≤◌, ◌<◌}
-use native.Mathlib.Omega.{arith}
-use mathlib.Core.List.{List, [], ◌∷◌, ◌++◌, map}
-use mathlib.Core.Option.{some, some-injective}
-use lib.ListN.{length, take, length-append}
+use Rattle.std.proofs.Common.{◌≡◌, refl, ap, ◌∙◌, subst, ℕ, zero, suc, ◌+◌, ◌≤◌, ◌<◌, List, [], ◌∷◌, ◌++◌, map, length, take, arith, length-append}
+use Rattle.std.proofs.Math.Option.{some, some-injective}
 use Rattle.item.proofs.Exact.{none≢}
 use Rattle.entries.specs.Entries.{Stands}
 use Rattle.entries.proofs.Standing.{stands-left, stands-right, stands-is, stands_at}

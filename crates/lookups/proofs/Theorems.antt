@@ -1,14 +1,6 @@
 -- What the lookups of section 6 are for: they find what the meaning has, and give items of it. Assumes nothing.
-use mathlib.Core.Path.{◌≡◌, refl, sym, ap, ◌∙◌, subst}
-use Prim.Native.Nat.{ℕ, suc, ◌+◌, ◌-◌, ◌<◌}
-use native.Mathlib.Omega.{arith}
-use mathlib.Core.List.{List, [], ◌∷◌, map, nil≢cons}
-use mathlib.Core.Bool.{Bool, true, false}
-use mathlib.Core.Logic.{◌⊎◌, inl, inr, ⊎_elim}
-use mathlib.Core.Option.{Option, none, some, some-injective}
-use lib.Dec.{ltb}
-use lib.ListN.{length, take, get_or}
-use borrow.Author.Tests.{ltb-true, ltb-false}
+use Rattle.std.proofs.Common.{◌≡◌, refl, sym, ap, ◌∙◌, subst, ℕ, suc, ◌+◌, ◌-◌, ◌<◌, Bool, true, false, ltb, List, [], ◌∷◌, map, length, take, get_or, ◌⊎◌, inl, inr, ⊎_elim, arith, ltb-false, ltb-true}
+use Rattle.std.proofs.Math.Option.{Option, none, some, some-injective}
 use Rattle.refusal.specs.Base.{good, ◌>>=◌, given, maybe}
 use Rattle.refusal.proofs.Tools.{refused≢good}
 use Rattle.item.specs.Tree.{Yaml, Entries, dict, get, Ranged}
@@ -104,7 +96,7 @@ module _ (b : List ℕ) (m : Meaning) (w : IsRecord b m) where
       where
         go : (t : List ℕ) → id ≡ t → (id ≡ []) ⊎ Each (λ s. s.id ≡ id → ⊥) m.steps
         go [] p = inl p
-        go (x ∷ t) p = inr (none_has id (λ n. nil≢cons (sym n ∙ p)) m.steps k)
+        go (x ∷ t) p = inr (none_has id (λ n. cc) m.steps k)
 
     -- an id gives the step with the smallest number among those that have it
     pub finds-first : FindsFirst b m id

@@ -1,14 +1,6 @@
 -- The search for a value beside a key, and `times` by the kind of its value. Assumes nothing.
-use Rattle.std.specs.Prelude.{if◌then◌else◌}
-use mathlib.Core.Path.{◌≡◌, refl, sym, ap, ◌∙◌, subst}
-use Prim.Native.Nat.{ℕ, zero, suc, ◌+◌, ◌^◌, ◌≤◌, ◌<◌}
-use native.Mathlib.Omega.{arith}
-use mathlib.Core.List.{List}
-use mathlib.Core.Bool.{Bool, true, false}
-use mathlib.Core.Option.{Option, none, some, some-injective}
-use lib.IntN.{ℤ}
-use lib.ListN.{length, take, drop}
-use borrow.Author.Tests.{lt-ltb, le-ltb}
+use Rattle.std.proofs.Common.{◌≡◌, refl, sym, ap, ◌∙◌, subst, ℕ, zero, suc, ◌+◌, ◌^◌, ◌≤◌, ◌<◌, ℤ, Bool, true, false, if◌then◌else◌, List, length, take, drop, Some, arith, le-ltb, lt-ltb}
+use Rattle.std.proofs.Math.Option.{Option, none, some, some-injective}
 use Rattle.refusal.specs.Base.{Answer, good, refused, ◌>>=◌, ◌>>◌, ensure, maybe, same}
 use Rattle.item.specs.Tree.{Yaml, null, bool, int, str, seq, dict, Entries, done, pair, get, Ranged}
 use Rattle.item.specs.Encode as N
@@ -20,7 +12,6 @@ use Rattle.item.specs.Places.{header_at}
 use Rattle.item.specs.declared.Found as search
 use Rattle.item.specs.declared.Found.TheVariants as found
 use Rattle.entries.specs.Entries.{Stands, Holds, place_of, span_at}
-use Rattle.std.specs.Prelude.{Some}
 use Rattle.entries.proofs.Standing.{stands-is, stands_at, item-content, value-head, Valued}
 use Rattle.entries.proofs.Values.{mapped}
 use Rattle.entries.proofs.Walking.{value-stands, others-stand}
@@ -79,13 +70,13 @@ place_is key at (pair k v es) = go (same k key) (place_is key (at + length (text
     go false e = ap (λ (i : ℕ). place_of key i es) (omega (arith, text-long k)) ∙ e
 
 module _ {s : List ℕ} (key : List ℕ) {from to : ℕ} (es : Entries) (h : Holds s from to es) where
-  pub nothing-beside : {r : search.Found} → r ≡ place_of key from es → r ≡ found.Nothing → good nothing ≡ good (item_part (beside key from es))
+  pub nothing_beside : {r : search.Found} → r ≡ place_of key from es → r ≡ found.Nothing → good nothing ≡ good (item_part (beside key from es))
   unfolding item_part maybe
-  nothing-beside {r} e n = go (beside key from es) (sym n ∙ e ∙ place_is key from es)
+  nothing_beside {r} e n = go (beside key from es) (sym n ∙ e ∙ place_is key from es)
     where
       go : (o : Option (ℕ × Yaml)) → found.Nothing ≡ placed o → good nothing ≡ good (item_part o)
       go none q = refl
-      go (some (p, v)) q = absurd (let z : ◌≡◌ {A = ℕ} 0 1 = cc q in omega arith)
+      go (some (p, v)) q = cc q
 
   -- the item there is the value's
   module _ (w : length s ≤ 2 ^ 20) {p : ℕ} {r : search.Found} (e : r ≡ place_of key from es) (a : r ≡ found.At p) where
@@ -99,15 +90,15 @@ module _ {s : List ℕ} (key : List ℕ) {from to : ℕ} (es : Entries) (h : Hol
     here = go (beside key from es) refl (sym a ∙ e ∙ place_is key from es)
       where
         go : (o : Option (ℕ × Yaml)) → beside key from es ≡ o → found.At p ≡ placed o → Beside
-        go none q z = absurd (let z : ◌≡◌ {A = ℕ} 0 1 = cc z in omega arith)
+        go none q z = cc z
         go (some (i, v)) q z =
             let n : i ≡ p = cc z in
             let q' : beside key from es ≡ some (p, v) = q ∙ ap (λ (k : ℕ). some (k, v)) n in
             record { value = v; is = q'; spans = ap (span_at p) (value-head v w (beside-found key from es h.ranged h.lies.stands q').stands) }
 
-    pub item-beside : span_of (span_at p (header_at s p)) ≡ good (item_part (beside key from es))
+    pub item_beside : span_of (span_at p (header_at s p)) ≡ good (item_part (beside key from es))
     unfolding item_part maybe
-    item-beside = ap span_of here.spans ∙ sym (rw here.is)
+    item_beside = ap span_of here.spans ∙ sym (rw here.is)
 
 -- ---- in a value
 
@@ -189,12 +180,12 @@ an_int (seq ys) k = absurd (omega arith)
 an_int (dict es) k = absurd (omega arith)
 
 module _ {s : List ℕ} {at kind from to : ℕ} (number : ℕ) (v : Yaml) (i : Valued s at v kind from to) where
-  pub no-times : (kind ≡ 2 → ⊥) → refused 38 0 number ≡ times_in number v
-  no-times k = other-times number v (λ e. k (i.kind_is ∙ e))
+  pub no_times : (kind ≡ 2 → ⊥) → refused 38 0 number ≡ times_in number v
+  no_times k = other-times number v (λ e. k (i.kind_is ∙ e))
 
   module _ (k : kind ≡ 2) where
-    pub eight-bytes : from + 8 ≡ to
-    eight-bytes = omega (arith, i.start, i.end, int-size v (sym i.kind_is ∙ k))
+    pub eight_bytes : from + 8 ≡ to
+    eight_bytes = omega (arith, i.start, i.end, int-size v (sym i.kind_is ∙ k))
 
     pub times-is : {z : ℤ} → Ranged v → Stands s at (encode v) → z ≡ untwos (N.number (take 8 (drop from s))) → times_in number (int z) ≡ times_in number v
     times-is {z} g st q =
@@ -203,22 +194,22 @@ module _ {s : List ℕ} {at kind from to : ℕ} (number : ℕ) (v : Yaml) (i : V
         let e : z ≡ w.0 = q ∙ ap (λ (n : ℕ). untwos (N.number (take 8 (drop n s)))) i.start ∙ int_at w.0 r (stands-is (ap (λ (y : Yaml). encode y) w.1) st) in
         ap (λ (x : ℤ). times_in number (int x)) e ∙ ap (times_in number) (sym w.1)
 
-pub times-negative : (number m : ℕ) → refused 38 0 number ≡ times_in number (int (signed true m))
+pub times_negative : (number m : ℕ) → refused 38 0 number ≡ times_in number (int (signed true m))
 unfolding times_in signed
-times-negative number zero = refl
-times-negative number (suc m) = refl
+times_negative number zero = refl
+times_negative number (suc m) = refl
 
 pub times_zero : (number m : ℕ) → m ≡ 0 → refused 38 0 number ≡ times_in number (int (signed false m))
 unfolding times_in signed
 times_zero number zero e = refl
 times_zero number (suc m) e = absurd (omega arith)
 
-pub times-large : (number m : ℕ) → 4294967295 < m → refused 39 0 number ≡ times_in number (int (signed false m))
+pub times_large : (number m : ℕ) → 4294967295 < m → refused 39 0 number ≡ times_in number (int (signed false m))
 unfolding times_in signed ensure ◌>>◌ ◌>>=◌
-times-large number zero h = absurd (omega arith)
-times-large number (suc m) h = rw (le-ltb (suc m) (2 ^ 32) (omega arith))
+times_large number zero h = absurd (omega arith)
+times_large number (suc m) h = rw (le-ltb (suc m) (2 ^ 32) (omega arith))
 
-pub times-good : (number m : ℕ) → (m ≡ 0 → ⊥) → m ≤ 4294967295 → good m ≡ times_in number (int (signed false m))
+pub times_good : (number m : ℕ) → (m ≡ 0 → ⊥) → m ≤ 4294967295 → good m ≡ times_in number (int (signed false m))
 unfolding times_in signed ensure ◌>>◌ ◌>>=◌
-times-good number zero n h = absurd (n refl)
-times-good number (suc m) n h = rw (lt-ltb (suc m) (2 ^ 32) (omega arith))
+times_good number zero n h = absurd (n refl)
+times_good number (suc m) n h = rw (lt-ltb (suc m) (2 ^ 32) (omega arith))

@@ -2,7 +2,7 @@
 // outside, so every job takes any bytes, checks them itself and writes nothing.
 #![tactic(auto)]
 
-ghost use Rattle.std.specs.Prelude.{◌≡◌, ℕ, ◌+◌, ◌≤◌, ◌^◌, List, map, length};
+ghost use Rattle.std.specs.Prelude.{◌≡◌, ℕ, ◌+◌, ◌≤◌, List, map, length};
 ghost use Rattle.refusal.specs.Base.{good, maybe};
 ghost use Rattle.item.specs.Tree.{Yaml, Entries, int, Ranged};
 ghost use Rattle.item.specs.Encode.{encode, signed};
@@ -10,18 +10,17 @@ ghost use Rattle.entries.specs.Entries.{Stands, Holds};
 ghost use Rattle.meaning.specs.Meaning.{Step};
 ghost use Rattle.meaning.specs.Record.{step_item};
 ghost use Rattle.record.specs.Jobs.{nothing, numbered, lookup_of};
-ghost use Rattle.record.specs.Contract.{StepsLie, span_of};
+ghost use Rattle.record.specs.Contract.{StepsLie, span_of, looked_of, told_of};
 ghost use Rattle.lookups.specs.Lookups as definition;
 ghost use Rattle.lookups.specs.Lookups.{has_id, number_of, beside, in_mapping, value_in, item_part, times_in, times_of};
-ghost use Rattle.lookups.specs.Contract.{told_of};
 
 use entries::{Span, item_at, nth_item, search};
-use item::{Found, Integer, Items, Kind, header_at, same_bytes};
+use item::{Encoded, Found, Integer, Item, Kind, Part, header_at, same_bytes};
 use nodes::integer_at;
-use record::{Lookup, RecordAnswer, check_record, step};
+use record::{Lookup, step_at, steps_of};
 use refusal::Refusal;
 
-// What `times` answers.
+/// What `times` answers.
 // An enum of its own, as each public job answers: what it tells has names, and the definitions name its cases.
 #[derive(Clone, Copy, Debug, PartialEq, Eq)]
 pub enum TimesAnswer {
@@ -31,7 +30,7 @@ pub enum TimesAnswer {
 
 impl From<Result<u32, Refusal>> for TimesAnswer {
     ghost use Rattle.lookups.specs.Lookups.{times_of};
-    ghost use Rattle.lookups.specs.Contract.{told_of};
+    ghost use Rattle.record.specs.Contract.{told_of};
 
     ghost from_gives = { λ told answer. times_of answer ≡ told_of told };
 
@@ -44,29 +43,29 @@ impl From<Result<u32, Refusal>> for TimesAnswer {
 }
 
 // Whether the step whose parts begin at `from` has this id, the second of them.
-fn has_id(s: &[u8], from: usize, id: &[u8]) -> bool
-    requires { length s.now ≤ 2 ^ 20 }
-    ensures { (at : ℕ) (step : Step) → from ≡ at + 6 → Stands s.now at (step_item step)
+#[tactic(auto, using(record::proofs::StepPlaces::nth_inside, crate::proofs::Ids::no_id))]
+fn has_id(s: Encoded<'_>, from: usize, id: &[u8]) -> bool
+    ensures { (at : ℕ) (step : Step) → from ≡ at + 6 → Stands s.entry.bytes.now at (step_item step)
         → result ≡ has_id id.now step }
 {
     if id.is_empty() {
         return false;
     }
-    match nth_item(s, from, 1) {
-        Some(part) => same_bytes(&s[part.start + 6..part.end], id),
+    match nth_item(s.bytes, from, 1) {
+        Some(part) => same_bytes(&s.bytes[part.start + 6..part.end], id),
         None => false,
     }
 }
 
-// The first of the steps from `from` to `to` that has this id.
-fn find_id(s: &[u8], from: usize, to: usize, id: &[u8]) -> Option<Span>
-    requires { (to ≤ length s.now) × (length s.now ≤ 2 ^ 20) }
-    ensures { (steps : List Step) → StepsLie s.now from to steps
-        → span_of result ≡ maybe (number_of id.now 1 steps) (good nothing) (numbered from (map step_item steps)) }
+// The first of the steps that has this id.
+#[tactic(auto, using(item::proofs::Headers::spans, crate::proofs::Ids::ids_end))]
+fn find_id(steps: Part<'_>, id: &[u8]) -> Option<Span>
+    ensures { (xs : List Step) → StepsLie steps.entry.bytes.now steps.entry.from steps.entry.to xs → span_of result
+        ≡ maybe (number_of id.now 1 xs) (good nothing) (numbered steps.entry.from (map step_item xs)) }
 {
-    for step in Items::within(s, from, to) {
+    for step in steps.walk::<Item>() {
         let step = step.ok()?;
-        if has_id(s, step.from, id) {
+        if has_id(steps.encoded(), step.from, id) {
             let found = Span {
                 start: step.from - 6,
                 end: step.to,
@@ -77,66 +76,77 @@ fn find_id(s: &[u8], from: usize, to: usize, id: &[u8]) -> Option<Span>
     None
 }
 
-// The item of the first step with this id.
+// The step with this id, if the bytes are a record.
+fn with_id(record: &[u8], id: &[u8]) -> Result<Option<Span>, Refusal>
+    ensures { looked_of result ≡ definition.step_by_id «record».now id.now }
+{
+    let steps = steps_of(record)?;
+    Ok(find_id(steps.items, id))
+}
+
+/// The item of the first step with this id. No step has the empty id, so that finds nothing.
 pub fn step_by_id(record: &[u8], id: &[u8]) -> Lookup
     ensures { lookup_of result ≡ definition.step_by_id «record».now id.now }
 {
-    match check_record(record) {
-        RecordAnswer::Refused(refusal) => Lookup::Refused(refusal),
-        RecordAnswer::Good { .. } => match nth_item(record, 6, 7) {
-            Some(list) => Lookup::from(find_id(record, list.start + 6, list.end, id)),
-            None => Lookup::Nothing,
-        },
-    }
+    Lookup::from(with_id(record, id))
 }
 
-// The value beside a key, among the entries from `from` to `to`.
-fn find_value(s: &[u8], from: usize, to: usize, key: &[u8]) -> Option<Span>
-    requires { (to ≤ length s.now) × (length s.now ≤ 2 ^ 20) }
-    ensures { (es : Entries) → Holds s.now from to es
-        → span_of result ≡ good (item_part (beside key.now from es)) }
+// The value beside a key, among the entries of a part.
+#[tactic(auto, using(crate::proofs::Values::nothing_beside, crate::proofs::Values::item_beside))]
+fn find_value(part: Part<'_>, key: &[u8]) -> Option<Span>
+    ensures { (es : Entries) → Holds part.entry.bytes.now part.entry.from part.entry.to es
+        → span_of result ≡ good (item_part (beside key.now part.entry.from es)) }
 {
-    let Found::At(place) = search(s, from, to, key) else {
+    let Found::At(place) = search(part, key) else {
         return None;
     };
-    item_at(s, place)
+    item_at(part.bytes, place)
 }
 
 // The same in the value at `at`, if that is a mapping.
-fn in_mapping(s: &[u8], at: usize, key: &[u8]) -> Option<Span>
-    requires { length s.now ≤ 2 ^ 20 }
-    ensures { (v : Yaml) → Ranged v → Stands s.now at (encode v)
+fn in_mapping(s: Encoded<'_>, at: usize, key: &[u8]) -> Option<Span>
+    ensures { (v : Yaml) → Ranged v → Stands s.entry.bytes.now at (encode v)
         → span_of result ≡ good (item_part (in_mapping key.now at v)) }
 {
-    let item = header_at(s, at).ok()?;
+    let item = header_at(s.bytes, at).ok()?;
     if item.kind != Kind::Map as usize {
         return None;
     }
-    find_value(s, item.from, item.to, key)
+    find_value(s.part(item.from, item.to), key)
 }
 
 // The same in the value of the step at `at`, the fourth of its parts.
-fn value_in(s: &[u8], at: usize, key: &[u8]) -> Option<Span>
-    requires { (at + 6 ≤ length s.now) × (length s.now ≤ 2 ^ 20) }
-    ensures { (step : Step) → Ranged step.value → Stands s.now at (step_item step)
+fn value_in(s: Encoded<'_>, at: usize, key: &[u8]) -> Option<Span>
+    requires { at + 6 ≤ length s.bytes.now }
+    ensures { (step : Step) → Ranged step.value → Stands s.entry.bytes.now at (step_item step)
         → span_of result ≡ good (item_part (value_in key.now at step)) }
 {
-    let value = nth_item(s, at + 6, 3)?;
+    let value = nth_item(s.bytes, at + 6, 3)?;
     in_mapping(s, value.start, key)
 }
 
-// The item of the value beside a key, in the mapping beside the command of the step with this number.
+// The value beside a key, if the bytes are a record that has the step.
+#[tactic(auto, using(crate::proofs::Numbers::number_there))]
+fn beside_key(record: &[u8], number: usize, key: &[u8]) -> Result<Option<Span>, Refusal>
+    ensures { looked_of result ≡ definition.value_by_key «record».now number key.now }
+{
+    let Some(step) = step_at(record, number)? else {
+        return Ok(None);
+    };
+    let record = Encoded { bytes: record };
+    Ok(value_in(record, step.start, key))
+}
+
+/// The item of the value beside a key, in the mapping beside the command of the step with this number. Steps are numbered from 1; nothing
+/// where that value is no mapping or lacks the key, and refused where no step has the number.
 pub fn value_by_key(record: &[u8], number: usize, key: &[u8]) -> Lookup
     ensures { lookup_of result ≡ definition.value_by_key «record».now number key.now }
 {
-    match step(record, number) {
-        Lookup::Found { start, .. } => Lookup::from(value_in(record, start, key)),
-        Lookup::Nothing => Lookup::Nothing,
-        Lookup::Refused(refusal) => Lookup::Refused(refusal),
-    }
+    Lookup::from(beside_key(record, number, key))
 }
 
 // An integer as the times of the step with this number.
+#[tactic(auto, using(crate::proofs::Values::times_negative, crate::proofs::Values::times_zero, crate::proofs::Values::times_large, crate::proofs::Values::times_good))]
 fn times_of(n: Integer, number: u32) -> Result<u32, Refusal>
     ensures { told_of result ≡ times_in number (int (signed n.negative n.magnitude)) }
 {
@@ -156,28 +166,35 @@ fn times_of(n: Integer, number: u32) -> Result<u32, Refusal>
 }
 
 // The same of the value at `at`.
-fn times_at(s: &[u8], at: usize, number: u32) -> Result<u32, Refusal>
-    requires { length s.now ≤ 2 ^ 20 }
-    ensures { (v : Yaml) → Ranged v → Stands s.now at (encode v) → told_of result ≡ times_in number v }
+fn times_at(s: Encoded<'_>, at: usize, number: u32) -> Result<u32, Refusal>
+    ensures { (v : Yaml) → Ranged v → Stands s.entry.bytes.now at (encode v) → told_of result ≡ times_in number v }
 {
-    let Ok(item) = header_at(s, at) else {
+    let Ok(item) = header_at(s.bytes, at) else {
         return Err(Refusal::TimesNotPositive { step: number });
     };
     if item.kind != Kind::Int as usize || item.to - item.from < 8 {
         return Err(Refusal::TimesNotPositive { step: number });
     }
-    times_of(integer_at(s, item.from), number)
+    times_of(integer_at(s.bytes, item.from), number)
 }
 
-// How often the step with this number is repeated.
+// How often the step is repeated, if the bytes are a record that has it.
+fn told_times(record: &[u8], number: usize) -> Result<u32, Refusal>
+    ensures { told_of result ≡ definition.times «record».now number }
+{
+    let Some(times) = beside_key(record, number, b"times")? else {
+        return Err(Refusal::TimesNotPositive {
+            step: number as u32,
+        });
+    };
+    let record = Encoded { bytes: record };
+    times_at(record, times.start, number as u32)
+}
+
+/// How often the step with this number is repeated, which its `times` says: an integer from 1 to 4,294,967,295. Refused where there is
+/// none such.
 pub fn times(record: &[u8], number: usize) -> TimesAnswer
     ensures { times_of result ≡ definition.times «record».now number }
 {
-    match value_by_key(record, number, b"times") {
-        Lookup::Found { start, .. } => TimesAnswer::from(times_at(record, start, number as u32)),
-        Lookup::Nothing => TimesAnswer::Refused(Refusal::TimesNotPositive {
-            step: number as u32,
-        }),
-        Lookup::Refused(refusal) => TimesAnswer::Refused(refusal),
-    }
+    TimesAnswer::from(told_times(record, number))
 }

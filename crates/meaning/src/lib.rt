@@ -15,6 +15,8 @@ fn one_of(key: &[u8], names: &[&[u8]]) -> bool
     names.iter().any(|name| same_bytes(key, name))
 }
 
+/// Whether a key of the whole scenario has a meaning.
+#[tactic(auto, unfolding(refusal::specs::Base::bytes, refusal::specs::Base::one_of, crate::specs::Meanings::top_keys))]
 pub fn is_top_key(key: &[u8]) -> bool
     ensures { result ≡ one_of key.now top_keys }
 {
@@ -34,6 +36,8 @@ pub fn is_top_key(key: &[u8]) -> bool
     )
 }
 
+/// Whether a key of a step is one of its own fields, and so names no command.
+#[tactic(auto, unfolding(refusal::specs::Base::bytes, refusal::specs::Base::one_of, crate::specs::Meaning::step_fields))]
 pub fn is_step_field(key: &[u8]) -> bool
     ensures { result ≡ one_of key.now step_fields }
 {
@@ -43,6 +47,8 @@ pub fn is_step_field(key: &[u8]) -> bool
     )
 }
 
+/// Whether a command is built in, so that it needs no name in a list of commands.
+#[tactic(auto, unfolding(refusal::specs::Base::bytes, refusal::specs::Base::one_of, crate::specs::Meaning::built_in_steps))]
 pub fn is_built_in(key: &[u8]) -> bool
     ensures { result ≡ one_of key.now built_in_steps }
 {

@@ -1,13 +1,6 @@
 -- Where a job names a step, it counts from 1, and so does every line that it names of its own; its numbers are document 01's. Assumes nothing.
-use mathlib.Core.Path.{◌≡◌, refl}
-use Prim.Native.Nat.{ℕ, zero, suc, ◌≤◌, min, ◌^◌}
-use native.Mathlib.Omega.{arith}
-use mathlib.Core.List.{List, [], ◌∷◌, map}
-use mathlib.Core.Bool.{false, ◌||◌, not}
-use mathlib.Core.Option.{Option, none, some}
-use lib.Dec.{ltb, leb}
-use lib.IntN.{pos}
-use lib.ListN.{length}
+use Rattle.std.proofs.Common.{◌≡◌, refl, ℕ, zero, suc, ◌≤◌, min, ◌^◌, arith, List, [], ◌∷◌, map, false, ◌||◌, not, ltb, leb, pos, length}
+use Rattle.std.proofs.Math.Option.{Option, none, some}
 use Rattle.refusal.specs.Base.{Answer, good, refused, ◌>>=◌, maybe, bytes, same, one_of}
 use Rattle.item.specs.Tree.{Yaml, null, int, seq, dict, Items, end, ◌▸◌, Entries, done, pair, get}
 use Rattle.meaning.specs.Meaning.{Step, Meaning, Defaults, built_in_steps}

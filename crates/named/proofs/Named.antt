@@ -1,9 +1,6 @@
 -- Every refusal names what document 01's sentence says, and every answer of every job is one of these or good. Assumes nothing.
-use mathlib.Core.Path.{◌≡◌, refl, sym, ◌∙◌}
-use Prim.Native.Nat.{ℕ}
-use mathlib.Core.List.{List}
-use mathlib.Core.Bool.{true, false, false≢true}
-use lib.Dec.{leb}
+use Rattle.std.proofs.Common.{◌≡◌, refl, sym, ◌∙◌, ℕ, List, true, false, leb}
+use Rattle.std.proofs.lemmas.Bool.{false≢true}
 use Rattle.refusal.specs.Base.{good}
 use Rattle.refusal.specs.Told.{told_of, refusal}
 use Rattle.refusal.proofs.Tools.{refused≢good}

@@ -15,12 +15,14 @@ use record::{Lookup, RecordAnswer, check_record, field, step};
 use scenario::{ScenarioAnswer, read_scenario};
 use tree::{TreeAnswer, read_tree};
 
+/// What reading a tree names.
 pub fn of_tree(text: &[u8], work: &mut [u8]) -> TreeAnswer
     ensures { Names (trees.answer_of result) }
 {
     read_tree(text, work)
 }
 
+/// What reading a scenario names.
 pub fn of_scenario(
     text: &[u8],
     work: &mut [u8],
@@ -32,42 +34,49 @@ pub fn of_scenario(
     read_scenario(text, work, record, lines)
 }
 
+/// What checking a record names.
 pub fn of_check_record(record: &[u8]) -> RecordAnswer
     ensures { Names (answer_of result) }
 {
     check_record(record)
 }
 
+/// What checking a record's steps names.
 pub fn of_check_steps(record: &[u8], lines: &[u32], names: &[u8]) -> StepsAnswer
     ensures { Names (steps.answer_of result) }
 {
     check_steps(record, lines, names)
 }
 
+/// What looking up a field names.
 pub fn of_field(record: &[u8], place: usize) -> Lookup
     ensures { Names (lookup_of result) }
 {
     field(record, place)
 }
 
+/// What looking up a step names.
 pub fn of_step(record: &[u8], number: usize) -> Lookup
     ensures { Names (lookup_of result) }
 {
     step(record, number)
 }
 
+/// What looking up a step by its id names.
 pub fn of_step_by_id(record: &[u8], id: &[u8]) -> Lookup
     ensures { Names (lookup_of result) }
 {
     step_by_id(record, id)
 }
 
+/// What looking up a value by its key names.
 pub fn of_value_by_key(record: &[u8], number: usize, key: &[u8]) -> Lookup
     ensures { Names (lookup_of result) }
 {
     value_by_key(record, number, key)
 }
 
+/// What looking up a step's times names.
 pub fn of_times(record: &[u8], number: usize) -> TimesAnswer
     ensures { Names (times_of result) }
 {

@@ -1,10 +1,6 @@
 -- Eight bytes as a number. Assumes nothing.
-use mathlib.Core.Path.{◌≡◌}
-use Prim.Native.Nat.{ℕ, suc, ◌+◌, ◌*◌, ◌≤◌, ◌<◌}
-use native.Mathlib.Numerals.{towards_suc}
-use native.Mathlib.Omega.{arith}
-use mathlib.Core.List.{List}
-use lib.ListN.{length, take, drop, get_or}
+use Rattle.std.proofs.Common.{◌≡◌, ℕ, suc, ◌+◌, ◌*◌, ◌≤◌, ◌<◌, arith, List, length, take, drop, get_or}
+use Rattle.std.proofs.Math.Numerals.{towards_suc}
 use Rattle.item.specs.Encode.{number}
 use Rattle.item.proofs.HeaderPlaces.{take_next}
 

@@ -1,17 +1,11 @@
 -- What the items of values say: which text a value has, and an integer's sign and magnitude. Assumes nothing.
-use mathlib.Core.Path.{◌≡◌, refl, sym, ap, ◌∙◌}
-use Prim.Native.Nat.{ℕ, suc, ◌+◌, ◌-◌, ◌≤◌, ◌<◌, ◌^◌}
-use native.Mathlib.Omega.{arith}
-use mathlib.Core.List.{[], List}
-use mathlib.Core.Bool.{Bool, true, false, not}
-use mathlib.Core.Option.{Option, none, some}
-use lib.ListN.{length, take, drop, get_or}
-use lib.IntN.{ℤ, pos, negsuc, neg_ℤ}
-use lib.Signed.{mag}
-use borrow.Author.Tests.{lt-ltb, le-ltb}
+use Rattle.std.proofs.Common.{◌≡◌, refl, sym, ap, ◌∙◌, ℕ, suc, ◌+◌, ◌-◌, ◌≤◌, ◌<◌, ◌^◌, arith, [], List, Bool, true, false, not, length, take, drop, get_or, ℤ, pos, negsuc, neg_ℤ}
+use Rattle.std.proofs.Math.Option.{Option, none, some}
+use Rattle.std.proofs.lemmas.Bool.{lt-ltb, le-ltb}
+use Rattle.std.specs.Int.Signed.{mag}
 use Rattle.std.specs.Prelude.{nat_eq}
 use Rattle.std.specs.Result.{result_ok}
-use Rattle.refusal.specs.Base.{maybe}
+use Rattle.refusal.specs.Base.{maybe, bytes}
 use Rattle.item.specs.Tree.{Yaml, null, bool, int, str, seq, dict, Ranged}
 use Rattle.item.specs.Encode.{number, le, twos, flag, item, encode, signed, kind_of}
 use Rattle.item.specs.Places.{header_at}
@@ -20,6 +14,7 @@ use Rattle.item.specs.declared.Item.{Item}
 use Rattle.item.proofs.RoundTrip.{number-le, twos_back, twos_small}
 use Rattle.item.proofs.Size.{le-length, item-length}
 use Rattle.number.specs.Integers.{int_text}
+use Rattle.number.proofs.Laws.{decimal-twenty}
 use Rattle.scalar.specs.Scalars.{key_text, bool_text}
 use Rattle.entries.specs.Entries.{Stands, FoundAt, content}
 use Rattle.entries.proofs.Standing.{stands-is, stands_at, stands-part, stands-byte, item-content, value-item, value-size, value-head}
@@ -103,6 +98,18 @@ module _ {s : List ℕ} {item : Item} where
   nothing_told (str x) i a b c = absurd (c i.kind_is)
   nothing_told (seq x) i a b c = refl
   nothing_told (dict x) i a b c = refl
+
+-- ---- how long a text is
+
+pub int_short : (z : ℤ) → length (int_text z) ≤ 2 ^ 20
+unfolding int_text
+int_short (pos m) = omega (arith, decimal-twenty m)
+int_short (negsuc m) = omega (arith, decimal-twenty (suc m))
+
+pub bool_short : (b : Bool) → length (bool_text b) ≤ 2 ^ 20
+unfolding bool_text bytes
+bool_short true = omega arith
+bool_short false = omega arith
 
 -- ---- what was looked for
 

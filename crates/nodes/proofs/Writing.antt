@@ -1,15 +1,11 @@
 -- How calls on a writer add up: bytes behind bytes, and an item whose header is filled in behind its content. Assumes nothing.
-use mathlib.Core.Path.{◌≡◌, refl, ap, ◌∙◌}
-use Prim.Native.Nat.{ℕ, ◌+◌, ◌-◌, ◌≤◌, ◌^◌}
-use native.Mathlib.Omega.{arith}
-use mathlib.Core.List.{List, [], ◌++◌}
-use lib.ListN.{length, length-append}
-use lib.Seq.{sets}
+use Rattle.std.proofs.Common.{◌≡◌, refl, ap, ◌∙◌, ℕ, ◌+◌, ◌-◌, ◌≤◌, ◌^◌, arith, List, [], ◌++◌, length, length-append}
+use Rattle.std.proofs.lemmas.List.Edits.{sets}
 use Rattle.item.specs.Encode.{head, item}
 use Rattle.item.proofs.Size.{head-length, item-length}
 use Rattle.item.proofs.Runs.{sets-append, sets-before}
 use Rattle.nodes.specs.declared.output.RecordWriter.{RecordWriter}
-use Rattle.nodes.specs.Writing.{Goes, Writes, Opens, Closes}
+use Rattle.nodes.specs.Writing.{Goes, GoesAtMost, Writes, Opens, Closes}
 
 pub goes_more : {a b c : RecordWriter} → Goes a b → Goes b c → Goes a c
 goes_more p q = record { same_reference = q.same_reference ∙ p.same_reference; len = q.len ∙ p.len; grows = omega (arith, p.grows, q.grows) }
@@ -63,3 +59,21 @@ writes_none h = record { goes = record { same_reference = refl; len = refl; grow
 -- an item with no content
 pub writes_empty : {a b c : RecordWriter} {header kind : ℕ} → Opens a b header → Closes b c header kind → Writes a c (item kind [])
 writes_empty p r = writes_item p (writes_none (omega (arith, p.ends))) r
+
+-- ---- how far at most
+
+pub most_less : {a b : RecordWriter} {m : ℕ} (most : ℕ) → GoesAtMost m a b → m ≤ most → GoesAtMost most a b
+most_less most p h = record { goes = p.goes; near = omega (arith, p.near) }
+
+pub most_more : {a b c : RecordWriter} {m n : ℕ} → GoesAtMost m a b → GoesAtMost n b c → GoesAtMost (m + n) a c
+most_more p q = record { goes = goes_more p.goes q.goes; near = omega (arith, p.near, q.near) }
+
+pub writes_most : {a b : RecordWriter} {x : List ℕ} (most : ℕ) → Writes a b x → length x ≤ most → GoesAtMost most a b
+writes_most most p h = record { goes = p.goes; near = omega (arith, p.ends) }
+
+pub item_most : {a b : RecordWriter} (most kind : ℕ) (content : List ℕ) → Writes a b (item kind content) → 6 + length content ≤ most → GoesAtMost most a b
+item_most most kind content p h = writes_most most p (omega (arith, item-length kind content))
+
+-- the header and the content of an item
+pub item_less : {a b c d : RecordWriter} {header kind m : ℕ} (most : ℕ) → Opens a b header → GoesAtMost m b c → Closes c d header kind → 6 + m ≤ most → GoesAtMost most a d
+item_less most p q r h = record { goes = goes_more (goes_opened p) (goes_more q.goes (goes_closed r)); near = omega (arith, p.ends, q.near, r.ends) }

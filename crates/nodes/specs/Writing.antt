@@ -14,6 +14,11 @@ pub record Goes (old new : RecordWriter) : Type 0 where
   pub len : length new.out.now ≡ length old.out.now
   pub grows : old.end ≤ new.end
 
+-- the same, and the end goes on by so many bytes at most
+pub record GoesAtMost (most : ℕ) (old new : RecordWriter) : Type 0 where
+  pub goes : Goes old new
+  pub near : new.end ≤ old.end + most
+
 -- bytes are written behind the end, and stored if they end within the output
 pub record Writes (old new : RecordWriter) (bytes : List ℕ) : Type 0 where
   pub goes : Goes old new

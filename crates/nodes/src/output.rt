@@ -1,5 +1,5 @@
 // The record as it is written: stored as far as it fits, and counted beyond that, so that one walk serves for both.
-ghost use Rattle.std.specs.Prelude.{◌≡◌, ◌+◌, ◌≤◌, ◌^◌, length};
+ghost use Rattle.std.specs.Prelude.{◌≡◌, ◌+◌, ◌≤◌, ◌<◌, ◌^◌, length};
 ghost use Rattle.item.specs.Tree.{null, bool};
 ghost use Rattle.item.specs.Encode.{item, encode, signed};
 ghost use Rattle.number.specs.Integers.{int_text};
@@ -21,6 +21,7 @@ pub struct RecordWriter<'a> {
 }
 
 impl<'a> RecordWriter<'a> {
+    /// Writes from the front of `out`.
     pub fn new(out: &'a mut [u8]) -> RecordWriter<'a>
         requires { length out.old ≤ 2 ^ 20 }
         ensures same_reference { result.out.ghost_name ≡ out.entry.ghost_name }
@@ -36,6 +37,7 @@ impl RecordWriter<'_> {
     ghost use Rattle.nodes.specs.Writing.{Writes, Opens, Closes};
     ghost use Rattle.nodes.specs.Contract.{text_of};
 
+    /// Puts bytes behind the end, as they are.
     pub fn put(&mut self, bytes: &[u8])
         ensures { Writes self.old self.new bytes.now }
     {
@@ -56,17 +58,27 @@ impl RecordWriter<'_> {
         header
     }
 
-    /// Fills in the header of an item, if the item fits: its content is all that stands behind it.
+    /// Fills in the header of an item of any kind that fits a header, if the item fits: its content is all that stands behind it.
+    pub fn close_as(&mut self, header: usize, kind: usize)
+        requires item { self.old.end ≤ length self.old.out.now → header + 6 ≤ self.old.end }
+        requires kind { kind < 2 ^ 16 }
+        ensures { Closes self.old self.new header kind }
+    {
+        if self.end <= self.out.len() {
+            let out = &mut *self.out;
+            put_header(out, header, kind, self.end - header - HEADER);
+        }
+    }
+
+    /// The same, of a kind with a name.
     pub fn close(&mut self, header: usize, kind: Kind)
         requires { self.old.end ≤ length self.old.out.now → header + 6 ≤ self.old.end }
         ensures { Closes self.old self.new header (number_of kind) }
     {
-        if self.end <= self.out.len() {
-            let out = &mut *self.out;
-            put_header(out, header, kind as usize, self.end - header - HEADER);
-        }
+        self.close_as(header, kind as usize);
     }
 
+    /// Puts the item that stands for nothing.
     pub fn null(&mut self)
         ensures { Writes self.old self.new (encode null) }
     {
@@ -74,6 +86,7 @@ impl RecordWriter<'_> {
         self.close(header, Kind::Null);
     }
 
+    /// Puts the item of a boolean, which has one byte.
     pub fn bool(&mut self, value: bool)
         ensures { Writes self.old self.new (encode (bool value)) }
     {
@@ -82,6 +95,7 @@ impl RecordWriter<'_> {
         self.close(header, Kind::Bool);
     }
 
+    /// Puts the item of a text, whose bytes may be any.
     pub fn text(&mut self, text: &[u8])
         ensures { Writes self.old self.new (item 3 text.now) }
     {
@@ -109,6 +123,7 @@ impl RecordWriter<'_> {
         self.close(header, Kind::Str);
     }
 
+    #[tactic(auto, unfolding(scalar::specs::Scalars::bool_text, refusal::specs::Base::bytes))]
     fn truth(&mut self, value: bool)
         ensures { Writes self.old self.new (item 3 (bool_text value)) }
     {

@@ -45,7 +45,8 @@ fn digits(t: &[u8], from: usize, negative: bool, limit: u64) -> Option<Integer>
     })
 }
 
-/// The integer that a text says by an optional minus and decimal digits, if it has 64 bits.
+/// The integer that a text says by an optional minus and decimal digits, if it has 64 bits. A first zero before other digits makes it
+/// none, as does a plus; `-0` is one.
 pub fn integer(t: &[u8]) -> Option<Integer>
     ensures { int_of result ≡ integer t.now }
 {
@@ -108,6 +109,7 @@ pub fn int_len(n: Integer) -> usize
     usize::from(shows_minus(n)) + decimal_len(n.magnitude)
 }
 
+/// Writes an integer's decimal digits at `at`, with a minus before them if it is below 0.
 pub fn put_int_text(out: &mut [u8], at: usize, n: Integer)
     requires { at + length (int_text (signed n.negative n.magnitude)) ≤ length out.old }
     ensures { out.new ≡ sets out.old at (int_text (signed n.negative n.magnitude)) }

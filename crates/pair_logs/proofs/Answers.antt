@@ -1,14 +1,8 @@
 -- What is answered, and what is left in the lists. Assumes nothing.
-use mathlib.Core.Path.{◌≡◌, refl, ap, ◌∙◌}
-use mathlib.Core.Logic.{⊎_elim}
-use Prim.Native.Nat.{ℕ, ◌+◌, ◌*◌, ◌≤◌, ◌<◌}
-use native.Mathlib.Omega.{arith}
-use mathlib.Core.List.{List, [], ◌∷◌, ◌++◌}
-use mathlib.Core.Bool.{Bool, true, false, ◌&&◌}
-use lib.ListN.{length, drop, replicate}
-use lib.Dec.{leb}
-use lib.Seq.{length-sets, sets-eq}
-use borrow.Author.Tests.{le-leb, lt-leb}
+use Rattle.std.proofs.Common.{◌≡◌, refl, ap, ◌∙◌, ⊎_elim, ℕ, ◌+◌, ◌*◌, ◌≤◌, ◌<◌, arith, List, [], ◌∷◌, ◌++◌, Bool, true, false, ◌&&◌, length, drop, replicate, leb, le-leb}
+use Rattle.std.proofs.lemmas.List.Edits.{sets-eq}
+use Rattle.std.proofs.lemmas.Bool.{lt-leb}
+use Rattle.std.proofs.Math.Seq.{length-sets}
 use Rattle.refusal.specs.Base.{Answer, refused, ◌>>=◌, ◌>>◌, ensure}
 use Rattle.refusal.proofs.Tools.{split}
 use Rattle.pair_logs.specs.PairLogs.{Pair, Pairing, pairing, never_falls, flat, listed, pair_logs, pair_numbers, hammer_numbers, sound_numbers, output, counts_of}

@@ -1,8 +1,5 @@
 -- Logs worked out by the definition. Assumes nothing.
-use mathlib.Core.Path.{◌≡◌, refl}
-use Prim.Native.Nat.{ℕ}
-use mathlib.Core.List.{List, [], ◌∷◌}
-use lib.ListN.{replicate}
+use Rattle.std.proofs.Common.{◌≡◌, refl, ℕ, List, [], ◌∷◌, replicate}
 use Rattle.refusal.specs.Base.{Answer, good, refused}
 use Rattle.refusal.proofs.Open.{Base-open}
 use Rattle.pair_logs.specs.PairLogs.{Pairing, near, place, all_alone, walk, pairing, never_falls, flat, listed, pair_logs}

@@ -1,13 +1,6 @@
 -- No pairs under the two rules are more than the walk's. Assumes nothing.
-use mathlib.Core.Path.{◌≡◌, refl}
-use Prim.Native.Nat.{ℕ, suc, ◌≤◌, ◌<◌}
-use native.Mathlib.Omega.{arith}
-use mathlib.Core.Logic.{◌⊎◌, inl, inr, ⊎_elim}
-use mathlib.Core.List.{List, [], ◌∷◌, map}
-use mathlib.Core.Bool.{Bool, true, false}
-use lib.Dec.{eqb}
-use lib.ListN.{length, get_or}
-use borrow.Author.Tests.{eqb-true, eqb-false}
+use Rattle.std.proofs.Common.{◌≡◌, refl, ℕ, suc, ◌≤◌, ◌<◌, arith, ◌⊎◌, inl, inr, ⊎_elim, List, [], ◌∷◌, map, Bool, true, false, eqb, length, get_or, eqb-true}
+use Rattle.std.proofs.lemmas.Bool.{eqb-false}
 use Rattle.refusal.proofs.Tools.{split}
 use Rattle.pair_logs.specs.PairLogs.{Pair, Pairing, near, never_falls, times, hammers_of, sounds_of, Near, Rules}
 use Rattle.pair_logs.proofs.Laws.{times_more, hit_same, hit_other, near-true, true-near, in_order}

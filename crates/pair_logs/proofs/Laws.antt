@@ -1,13 +1,8 @@
 -- How often a number stands in a list, which times are near, and that the times of a log never fall. Assumes nothing.
 use Rattle.std.specs.Prelude.{if◌then◌else◌}
-use mathlib.Core.Path.{◌≡◌, sym, ◌∙◌}
-use Prim.Native.Nat.{ℕ, zero, suc, ◌+◌, ◌≤◌, ◌<◌}
-use native.Mathlib.Omega.{arith}
-use mathlib.Core.List.{List, [], ◌∷◌}
-use mathlib.Core.Bool.{Bool, true, false, false≢true, and-eq-true_iff}
-use lib.Dec.{leb, eqb}
-use lib.ListN.{length, get_or}
-use borrow.Author.Tests.{leb-true, le-leb, eq-eqb, ne_eqb}
+use Rattle.std.proofs.Common.{◌≡◌, sym, ◌∙◌, ℕ, zero, suc, ◌+◌, ◌≤◌, ◌<◌, arith, List, [], ◌∷◌, Bool, true, false, leb, eqb, length, get_or, leb-true, le-leb, eq-eqb, ne_eqb}
+use Rattle.std.proofs.lemmas.Bool.{false≢true}
+use Rattle.std.proofs.Math.Bool.{and-eq-true_iff}
 use Rattle.pair_logs.specs.PairLogs.{times, near, never_falls}
 
 -- ---- how often

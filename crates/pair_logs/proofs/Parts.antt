@@ -1,10 +1,5 @@
 -- Every position of a log is in a pair or alone, once. Assumes nothing.
-use mathlib.Core.Path.{◌≡◌}
-use Prim.Native.Nat.{ℕ, suc, ◌+◌, ◌≤◌, ◌<◌}
-use native.Mathlib.Omega.{arith}
-use mathlib.Core.Logic.{⊎_elim}
-use mathlib.Core.List.{List, [], ◌∷◌}
-use lib.ListN.{length}
+use Rattle.std.proofs.Common.{◌≡◌, ℕ, suc, ◌+◌, ◌≤◌, ◌<◌, arith, ⊎_elim, List, [], ◌∷◌, length}
 use Rattle.refusal.proofs.Tools.{split}
 use Rattle.pair_logs.specs.PairLogs.{Pairing, hammers_of, sounds_of, times, Near, Rules, RisesFrom, Parted}
 use Rattle.pair_logs.proofs.Laws.{times_more, hit_same, hit_other}

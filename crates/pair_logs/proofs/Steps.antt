@@ -1,12 +1,5 @@
 -- What the walk along two logs does, step by step. Assumes nothing.
-use mathlib.Core.Path.{◌≡◌, refl}
-use Prim.Native.Nat.{ℕ, zero, suc, ◌+◌, ◌≤◌, ◌<◌}
-use native.Mathlib.Numerals.{add-one}
-use native.Mathlib.Omega.{arith}
-use mathlib.Core.Logic.{⊎_elim}
-use mathlib.Core.List.{List}
-use mathlib.Core.Bool.{Bool, true, false}
-use lib.ListN.{length, get_or}
+use Rattle.std.proofs.Common.{◌≡◌, refl, ℕ, zero, suc, ◌+◌, ◌≤◌, ◌<◌, add-one, arith, ⊎_elim, List, Bool, true, false, length, get_or}
 use Rattle.refusal.proofs.Tools.{split}
 use Rattle.pair_logs.specs.PairLogs.{Pairing, nothing, pair, lone_hammer, lone_sound, near, pairing, never_falls}
 use Rattle.pair_logs.specs.Contract.{walk_at}

@@ -1,8 +1,5 @@
 -- What is promised of every pairing. Assumes nothing.
-use mathlib.Core.Path.{◌≡◌}
-use Prim.Native.Nat.{ℕ}
-use mathlib.Core.List.{List}
-use mathlib.Core.Bool.{true}
+use Rattle.std.proofs.Common.{◌≡◌, ℕ, List, true}
 use Rattle.refusal.specs.Base.{good, ◌>>◌}
 use Rattle.refusal.proofs.Tools.{good-inj, bound, bound', ensured}
 use Rattle.pair_logs.specs.PairLogs.{Pairing, pairing, never_falls, listed, pair_logs, Best}

@@ -1,15 +1,7 @@
 -- A turn of the walk: what it places, and how the lists grow. Assumes nothing.
-use mathlib.Core.Path.{◌≡◌, refl, sym, ap, ◌∙◌}
-use mathlib.Core.Logic.{◌⊎◌, inl, inr, ⊎_elim}
-use Prim.Native.Nat.{ℕ, zero, suc, ◌+◌, ◌-◌, ◌*◌, ◌≤◌, ◌<◌}
-use native.Mathlib.Numerals.{add-one}
-use native.Mathlib.Omega.{arith}
-use mathlib.Core.List.{List, [], ◌∷◌}
-use mathlib.Core.Bool.{Bool, true, false, ◌&&◌, and_comm}
-use lib.Dec.{leb}
-use lib.ListN.{length, get_or, drop, set, length-drop, drop_of_length-le}
-use lib.Seq.{sets, drop-cons}
-use borrow.Author.Tests.{leb-true, leb-false, le-leb, lt-leb, lt-ltb, le-ltb}
+use Rattle.std.proofs.Common.{◌≡◌, refl, sym, ap, ◌∙◌, ◌⊎◌, inl, inr, ⊎_elim, ℕ, zero, suc, ◌+◌, ◌-◌, ◌*◌, ◌≤◌, ◌<◌, add-one, arith, List, [], ◌∷◌, Bool, true, false, ◌&&◌, leb, length, get_or, drop, set, length-drop, drop_of_length-le, drop-cons, le-leb, lt-ltb, le-ltb}
+use Rattle.std.proofs.lemmas.List.Edits.{sets}
+use Rattle.std.proofs.lemmas.Bool.{lt-leb}
 use Rattle.pair_logs.specs.PairLogs.{nothing, pair, lone_hammer, lone_sound, near, place, all_alone, walk, pairing, never_falls, flat}
 use Rattle.pair_logs.specs.Contract.{Turns, walk_at, Puts, Going, range, Rests, Written, WrittenAll}
 use Rattle.pair_logs.specs.declared.Turn.TheVariants.{Pair, LoneHammer, LoneSound}
@@ -17,21 +9,6 @@ use Rattle.pair_logs.specs.declared.Turn.TheVariants.{Pair, LoneHammer, LoneSoun
 and-false : (t : Bool) {u : Bool} → u ≡ false → t && u ≡ false
 and-false true e = e
 and-false false e = refl
-
--- ---- how near
-
--- a difference that does not wrap
-pub near_after : (h s : ℕ) → h ≤ s → leb (s - h) 40 ≡ near h s
-unfolding near
-near_after h s o = rw (le-leb h (s + 40) (omega arith)) (go (leb s (h + 40)) refl)
-  where
-    go : (t : Bool) → leb s (h + 40) ≡ t → leb (s - h) 40 ≡ t
-    go true e = le-leb (s - h) 40 (omega (arith, leb-true s (h + 40) e))
-    go false e = lt-leb (s - h) 40 (omega (arith, leb-false s (h + 40) e))
-
-pub near_before : (h s : ℕ) → s < h → leb (h - s) 40 ≡ near h s
-unfolding near
-near_before h s o = near_after s h (omega arith) ∙ and_comm (leb s (h + 40)) (leb h (s + 40))
 
 -- ---- what a turn places
 
@@ -241,5 +218,3 @@ module _ {hammers sounds pairs₀ pairs hs₀ hs ss₀ ss : List ℕ} {i a j b p
 pub ruleset turns = (going_start, turn_falls, going_pair, going_hammer, going_sound)
 
 pub ruleset rests = (resting_falls, resting_on, resting_end)
-
-pub ruleset nears = (near_after, near_before)

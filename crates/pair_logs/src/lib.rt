@@ -15,7 +15,7 @@ const MOST_TIMES: usize = 4096;
 // Milliseconds between a hammer and its sound.
 const MOST_APART: u32 = 40;
 
-// How many pairs, lone hammers and lone sounds the lists hold; a pair takes two places.
+/// How many pairs, lone hammers and lone sounds the lists hold; a pair takes two places.
 // An enum of its own, as each public job answers: what it tells has names, and the definitions name its cases.
 #[derive(Clone, Copy, Debug, PartialEq, Eq)]
 pub enum PairAnswer {
@@ -73,15 +73,11 @@ struct Walked {
     pairs: usize,
 }
 
-#[tactic(auto, using(crate::proofs::Turns::nears))]
+#[tactic(auto, unfolding(crate::specs::PairLogs::near))]
 fn near(hammer: u32, sound: u32) -> bool
     ensures { result ≡ definition.near hammer sound }
 {
-    if hammer <= sound {
-        sound - hammer <= MOST_APART
-    } else {
-        hammer - sound <= MOST_APART
-    }
+    hammer.abs_diff(sound) <= MOST_APART
 }
 
 // Refused where a time is below the one before it.
@@ -236,8 +232,9 @@ fn pair(hammers: &[u32], sounds: &[u32], lists: &mut Lists<'_>) -> Result<Counts
     Ok(counts)
 }
 
-// The positions of pairs, a hammer's and its sound's in turn, from the front of `pairs`; those of lone hammers and lone sounds from the
-// front of their lists. A refusal leaves zeros in all three.
+/// The positions of pairs, a hammer's and its sound's in turn, from the front of `pairs`; those of lone hammers and lone sounds from the
+/// front of their lists. Times are milliseconds that never fall. A refusal leaves zeros in all three: 64 for a log of more than 4,096 times,
+/// then 63 for a time below the one before it, then 65 for a list that is too short.
 #[tactic(auto, using(crate::proofs::Answers::told))]
 pub fn pair_logs(
     hammers: &[u32],

@@ -1,10 +1,6 @@
 -- The answers of the check and of the lookups, case by case. Assumes nothing.
-use mathlib.Core.Path.{◌≡◌, refl, sym, ap, ◌∙◌}
-use Prim.Native.Nat.{ℕ, suc, ◌+◌, ◌≤◌, ◌<◌}
-use native.Mathlib.Omega.{arith}
-use mathlib.Core.List.{List, map}
-use mathlib.Core.Option.{Option, none, some}
-use lib.ListN.{length, take, get_or}
+use Rattle.std.proofs.Common.{◌≡◌, refl, sym, ap, ◌∙◌, ℕ, suc, ◌+◌, ◌≤◌, ◌<◌, arith, List, map, length, take, get_or}
+use Rattle.std.proofs.Math.Option.{Option, none, some}
 use Rattle.refusal.specs.Base.{Answer, good, refused, ◌>>=◌, maybe, given}
 use Rattle.meaning.specs.Meaning.{Meaning}
 use Rattle.meaning.specs.Record.{joined, step_item, fields}
@@ -13,12 +9,10 @@ use Rattle.record.specs.Jobs as job
 use Rattle.record.specs.Jobs.{Found, nothing, part, opened, check_record, part_at, steps_start, answer_of}
 use Rattle.record.specs.Contract.{span_of, record_steps}
 use Rattle.entries.specs.Entries.{nth_item}
-use Rattle.value.proofs.Contents.{bytes_of}
-use Rattle.record.specs.declared.RecordAnswer.{RecordAnswer}
-use Rattle.record.specs.declared.RecordAnswer.TheVariants.{Good}
+use Rattle.item.proofs.Exact.{bytes_of}
 use Rattle.record.proofs.Lookups.{Opened, opening, field_is, step_is, numbered-in, numbered-out, field_found, step-found, length-steps}
 use Rattle.entries.specs.declared.Span.{Span}
-use Rattle.std.specs.Prelude.{Option as StdOption, Some}
+use Rattle.std.specs.Prelude.{Option as StdOption}
 
 -- ---- the check
 
@@ -32,8 +26,8 @@ checked b = go (meaning_in b)
 
 -- ---- the lookups
 
-pub opened-as : (b : List ℕ) {r : RecordAnswer} {n : ℕ} → ((i : ℕ) → get_or b i 0 < 256) → r ≡ Good n → answer_of r ≡ check_record b → Opened b n
-opened-as b {n = n} small e p = opening b (bytes_of b small) n (ap answer_of (sym e) ∙ p)
+pub opened_as : (b : List ℕ) {n : ℕ} → ((i : ℕ) → get_or b i 0 < 256) → good n ≡ check_record b → Opened b n
+opened_as b {n} small e = opening b (bytes_of b small) n e
 
 -- in a good record
 
@@ -60,12 +54,8 @@ module _ {b : List ℕ} {n : ℕ} (w : Opened b n) where
   unfolding part_at
   last_found r e p = sym p ∙ ap span_of e ∙ last-is
 
-  pub step_in : (span : Span) (number i : ℕ) → Some span ≡ nth_item b 6 7 → number ≡ suc i → i < n → span_of (nth_item b (span.start + 6) i) ≡ job.step b number
-  unfolding part_at steps_start
-  step_in span number i f e h =
-      let p : good (part span.start span.end) ≡ good (part_at 6 (fields w.meaning) 7) = ap span_of f ∙ last-is in
-      let s : span.start ≡ 6 + length (joined (take 7 (fields w.meaning))) = cc in
-      let at : span.start + 6 ≡ steps_start w.meaning = omega arith in
+  pub step_in : (from number i : ℕ) → from ≡ steps_start w.meaning → number ≡ suc i → i < n → span_of (nth_item b from i) ≡ job.step b number
+  step_in from number i at e h =
       let c : i < length w.meaning.steps = omega (arith, w.count) in
       let d : i < length (map step_item w.meaning.steps) = omega (arith, length-steps w.meaning.steps) in
       ap (λ (k : ℕ). span_of (nth_item b k i)) at

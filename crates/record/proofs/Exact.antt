@@ -1,12 +1,7 @@
 -- Bytes whose meaning is read are that meaning's record, and it keeps the rules. Assumes nothing.
-use mathlib.Core.Path.{◌≡◌, refl, sym, ap, ◌∙◌, subst}
-use Prim.Native.Nat.{ℕ, zero, suc, ◌≤◌}
-use mathlib.Core.List.{List, [], ◌∷◌, ◌++◌, append-nil, map}
-use mathlib.Core.Bool.{Bool, true, false, false≢true}
-use mathlib.Core.Option.{Option, none, some, some-injective}
-use lib.Dec.{leb, eqb}
-use lib.ListN.{length}
-use borrow.Author.Tests.{eqb-true, leb-true}
+use Rattle.std.proofs.Common.{◌≡◌, refl, sym, ap, ◌∙◌, subst, ℕ, zero, suc, ◌≤◌, List, [], ◌∷◌, ◌++◌, append-nil, map, Bool, true, false, leb, eqb, length, eqb-true, leb-true}
+use Rattle.std.proofs.lemmas.Bool.{false≢true}
+use Rattle.std.proofs.Math.Option.{Option, none, some, some-injective}
 use Rattle.refusal.specs.Base.{one_of, limit}
 use Rattle.refusal.proofs.Tools.{chosen}
 use Rattle.item.specs.Tree.{Yaml, Items, Entries, null, bool, int, str, seq, dict, levels}

@@ -1,11 +1,6 @@
 -- Small records, computed. Assumes nothing.
-use mathlib.Core.Path.{◌≡◌, refl}
-use Prim.Native.Nat.{ℕ}
-use mathlib.Core.List.{List, [], ◌∷◌, ◌++◌}
-use mathlib.Core.Bool.{false}
-use mathlib.Core.Option.{Option, none, some}
-use lib.ListN.{length}
-use lib.IntN.{pos}
+use Rattle.std.proofs.Common.{◌≡◌, refl, ℕ, List, [], ◌∷◌, ◌++◌, false, length, pos}
+use Rattle.std.proofs.Math.Option.{Option, none, some}
 use Rattle.refusal.specs.Base.{good, refused, bytes}
 use Rattle.refusal.proofs.Open.{Base-open}
 use Rattle.utf8.proofs.Open.{Utf8-open}

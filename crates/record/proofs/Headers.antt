@@ -1,18 +1,11 @@
 -- What a header says of a field or an item, and parts by their places. Assumes nothing.
 use Rattle.std.specs.Prelude.{if◌then◌else◌}
-use mathlib.Core.Path.{◌≡◌, refl, sym, ap, ◌∙◌}
-use Prim.Native.Nat.{ℕ, ◌+◌, ◌-◌, ◌≤◌, ◌<◌}
-use native.Mathlib.Omega.{arith}
-use mathlib.Core.List.{List, []}
-use mathlib.Core.Bool.{Bool, true, false, ◌&&◌}
-use mathlib.Core.Option.{none}
-use lib.Dec.{eqb, leb}
-use lib.ListN.{length, take, drop}
-use borrow.Author.Tests.{eq-eqb, ne_eqb, eqb-true, eqb-false, le-leb, lt-leb}
+use Rattle.std.proofs.lemmas.Bool.{eqb-false, lt-leb}
+use Rattle.std.proofs.Math.Option.{none}
 use Rattle.item.specs.Decode.{◌>>=◌, header}
 use Rattle.item.specs.Places.{header_at}
 use Rattle.std.specs.Prelude.{Result, Ok, Err, Option as StdOption, None, Some, slice_range, ◌⊎◌, unwrap_or}
-use Rattle.std.proofs.Common.{Bor, MatchOption, inl, inr}
+use Rattle.std.proofs.Common.{Bor, MatchOption, inl, inr, ◌≡◌, refl, sym, ap, ◌∙◌, ℕ, ◌+◌, ◌-◌, ◌≤◌, ◌<◌, arith, List, [], Bool, true, false, ◌&&◌, eqb, leb, length, take, drop, eq-eqb, ne_eqb, eqb-true, le-leb}
 use Rattle.std.specs.Result.{result_ok}
 use Rattle.std.specs.Bool.{then_some}
 use Rattle.item.specs.declared.Item.{Item}

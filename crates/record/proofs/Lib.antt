@@ -7,7 +7,6 @@ pub mod Headers
 pub mod Lookups
 pub mod StepPlaces
 pub mod Invariants
-pub mod Turns
 pub mod Views
 pub mod Theorems
 pub mod Open

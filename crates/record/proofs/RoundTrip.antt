@@ -1,14 +1,7 @@
 -- The record of a meaning within the rules is read back to that meaning; so records are one-to-one. Assumes nothing.
 use Rattle.std.specs.Prelude.{if◌then◌else◌}
-use mathlib.Core.Path.{◌≡◌, refl, sym, ◌∙◌}
-use Prim.Native.Nat.{ℕ, zero, suc, ◌+◌, ◌^◌, ◌≤◌, ◌<◌}
-use native.Mathlib.Nat.{le_refl}
-use native.Mathlib.Omega.{arith}
-use mathlib.Core.List.{List, [], ◌∷◌, ◌++◌, append-nil, map}
-use mathlib.Core.Bool.{Bool, true, false}
-use mathlib.Core.Option.{Option, none, some, some-injective}
-use lib.ListN.{length, length-append}
-use borrow.Author.Tests.{eq-eqb, le-leb}
+use Rattle.std.proofs.Common.{◌≡◌, refl, sym, ◌∙◌, ℕ, zero, suc, ◌+◌, ◌^◌, ◌≤◌, ◌<◌, le_refl, arith, List, [], ◌∷◌, ◌++◌, append-nil, map, Bool, true, false, length, length-append, eq-eqb, le-leb}
+use Rattle.std.proofs.Math.Option.{Option, none, some, some-injective}
 use Rattle.refusal.specs.Base.{one_of, limit}
 use Rattle.item.specs.Tree.{Yaml, Entries, bool, str, seq, levels}
 use Rattle.item.specs.Encode.{item, encode}

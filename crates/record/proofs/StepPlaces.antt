@@ -1,9 +1,5 @@
 -- Where the steps of a record and their parts stand, for those who walk along them. Assumes nothing.
-use mathlib.Core.Path.{◌≡◌, refl, sym, ap, ◌∙◌, subst}
-use Prim.Native.Nat.{ℕ, zero, suc, ◌+◌, ◌≤◌, ◌<◌, ◌^◌}
-use native.Mathlib.Omega.{arith}
-use mathlib.Core.List.{List, [], ◌∷◌, append-nil, map}
-use lib.ListN.{length, take, get_or, length-append, length-drop}
+use Rattle.std.proofs.Common.{◌≡◌, refl, sym, ap, ◌∙◌, subst, ℕ, zero, suc, ◌+◌, ◌≤◌, ◌<◌, ◌^◌, arith, List, [], ◌∷◌, append-nil, map, length, take, get_or, length-append, length-drop}
 use Rattle.refusal.specs.Base.{good, limit}
 use Rattle.item.specs.Tree.{bool, str, Ranged}
 use Rattle.item.specs.Encode.{item, encode}
@@ -21,7 +17,8 @@ use Rattle.meaning.specs.Record.{joined, optional, expected, text_item, step_par
 use Rattle.meaning.specs.Rules.{Each, StepRules, IsRecord}
 use Rattle.value.proofs.Levels.{ranged}
 use Rattle.record.specs.Jobs.{part, part_at, steps_start}
-use Rattle.record.specs.Contract.{span_of, StepsLie}
+use Rattle.record.specs.declared.StepItems.{StepItems}
+use Rattle.record.specs.Contract.{span_of, StepsLie, StepsOf}
 use Rattle.record.proofs.Lookups.{OneItem, tree-item, nth-part, steps_start_lem, steps-fit, Opened}
 use Rattle.record.proofs.Answers.{last_found, never-nothing}
 
@@ -201,3 +198,6 @@ module _ {b : List ℕ} {n : ℕ} (o : Opened b n) where
 
   pub steps-there : {X : Type 0} → None ≡ nth_item b 6 7 → X
   steps-there e = never-nothing (last_found o None e refl)
+
+abbrev pub opened_steps : {b : List ℕ} {steps : StepItems} → StepsOf b steps → Opened b steps.count
+opened_steps w = record { meaning = w.meaning; is = w.is; count = w.count; record_is = w.record_is }

@@ -1,12 +1,7 @@
 -- What the jobs on a record are for: the check accepts just the records of meanings that keep the rules, and by the lookups a
 -- record's whole meaning is read back. Assumes nothing.
-use mathlib.Core.Path.{◌≡◌, refl, sym, ap, ◌∙◌}
-use Prim.Native.Nat.{ℕ, zero, suc, ◌+◌, ◌-◌, ◌≤◌, ◌<◌}
-use native.Mathlib.Omega.{arith}
-use mathlib.Core.List.{List, [], ◌∷◌, ◌++◌, append_assoc, map}
-use mathlib.Core.Option.{Option, none, some}
-use lib.ListN.{length, take, drop, get_or, length-append, length-drop, take-append-drop, drop_of_length-le}
-use lib.Seq.{take_at, take-suc, drop-cons}
+use Rattle.std.proofs.Common.{◌≡◌, refl, sym, ap, ◌∙◌, ℕ, zero, suc, ◌+◌, ◌-◌, ◌≤◌, ◌<◌, arith, List, [], ◌∷◌, ◌++◌, append_assoc, map, length, take, drop, get_or, length-append, length-drop, take-append-drop, drop_of_length-le, take_at, take-suc, drop-cons}
+use Rattle.std.proofs.Math.Option.{Option, none, some}
 use Rattle.refusal.specs.Base.{Answer, good, refused, ◌>>=◌, given, limit}
 use Rattle.item.specs.Encode.{item, Bytes}
 use Rattle.item.proofs.Size.{item-length}

@@ -1,15 +1,7 @@
 -- Fields by the kinds of their items: what the code tests of a header, the definition tests of a tree. Assumes nothing.
 use Rattle.std.specs.Prelude.{if◌then◌else◌}
-use mathlib.Core.Path.{◌≡◌, refl, sym, ap, ◌∙◌}
-use Prim.Native.Nat.{ℕ, ◌+◌, ◌-◌}
-use native.Mathlib.Omega.{arith}
-use mathlib.Core.List.{List, [], ◌∷◌, ◌++◌, append_assoc}
-use mathlib.Core.Bool.{Bool, true, false, ◌&&◌}
-use mathlib.Core.Option.{Option, none, some, some-injective, none-ne-some}
-use lib.Dec.{eqb}
-use lib.ListN.{length, take, drop, length-drop, length-append}
-use lib.Seq.{take_at, drop_at, drop-drop}
-use borrow.Author.Tests.{eqb-true}
+use Rattle.std.proofs.Common.{◌≡◌, refl, sym, ap, ◌∙◌, ℕ, ◌+◌, ◌-◌, arith, List, [], ◌∷◌, ◌++◌, append_assoc, Bool, true, false, ◌&&◌, eqb, length, take, drop, length-drop, length-append, take_at, drop_at, drop-drop, eqb-true}
+use Rattle.std.proofs.Math.Option.{Option, none, some, some-injective, none-ne-some}
 use Rattle.refusal.specs.Base.{maybe, one_of}
 use Rattle.refusal.proofs.Tools.{chosen}
 use Rattle.item.specs.Tree.{Yaml, null, bool, int, str, seq, dict}

@@ -1,19 +1,22 @@
 -- Section 5 of document 01, for the contracts inside the crate: what the functions inside the check answer, by the definitions of Read.
--- Uses Base of `refusal`; Tree, Encode and Kinds of `item`; Meaning of `meaning`; Jobs and Read of this crate. Assumes nothing.
-use Rattle.std.specs.Prelude.{◌≡◌, ℕ, ◌+◌, ◌-◌, ◌≤◌, List, map, Bool, true, false, Option as StdOption, None, Some, eqb, length, take, drop, if◌then◌else◌}
+-- Uses Base and Told of `refusal`; Tree, Encode and Kinds of `item`; Meaning of `meaning`; Jobs and Read of this crate. Assumes nothing.
+use Rattle.std.specs.Prelude.{◌≡◌, ℕ, ◌+◌, ◌-◌, ◌≤◌, List, map, Bool, true, false, Option as StdOption, None, Some, Result, Ok, Err, eqb, length, take, drop, if◌then◌else◌}
 use Rattle.std.specs.List.{list_any}
 use Rattle.std.proofs.Math.Option.{Option, none, some}
 use Rattle.refusal.specs.Base.{maybe, Answer, good}
+use Rattle.refusal.specs.Told.{refusal}
+use Rattle.refusal.specs.declared.Refusal.{Refusal}
 use Rattle.item.specs.Tree.{Yaml, Ranged}
 use Rattle.item.specs.Encode.{kind_of}
 use Rattle.item.specs.declared.Kind.{Kind}
 use Rattle.item.specs.Kinds.{number_of}
-use Rattle.meaning.specs.Meaning.{Step}
+use Rattle.meaning.specs.Meaning.{Step, Meaning}
 use Rattle.meaning.specs.Record.{joined, step_item}
-use Rattle.meaning.specs.Rules.{Each}
+use Rattle.meaning.specs.Rules.{Each, IsRecord}
 use Rattle.entries.specs.Entries.{Stands}
 use Rattle.entries.specs.declared.Span.{Span}
-use Rattle.record.specs.Jobs.{Found, nothing, part}
+use Rattle.record.specs.Jobs.{Found, nothing, part, steps_start}
+use Rattle.record.specs.declared.StepItems.{StepItems}
 use Rattle.record.specs.Read.{field_of, as_text, content, in_item, all, step_in, defaults_in, rest_in, fields_in, meaning_in}
 
 -- a tree of one of some kinds
@@ -68,6 +71,16 @@ abbrev pub span_of : StdOption Span → Answer Found
 span_of (Some span) = good (part span.start span.end)
 span_of None = good nothing
 
+abbrev pub looked_of : Result (StdOption Span) Refusal → Answer Found
+looked_of (Ok span) = span_of span
+looked_of (Err e) = refusal e
+
+-- ---- what a function answers that may refuse
+
+abbrev pub told_of : {A : Type 0} → Result A Refusal → Answer A
+told_of (Ok a) = good a
+told_of (Err e) = refusal e
+
 -- ---- the steps of a record, for those who walk along them
 
 -- the items of steps that stand from a place to another; the integers in their values have 64 bits
@@ -75,3 +88,13 @@ pub record StepsLie (s : List ℕ) (from to : ℕ) (steps : List Step) : Type 0 
   pub ranged : Each (λ x. Ranged x.value) steps
   pub stands : Stands s from (joined (map step_item steps))
   pub ends : to ≡ from + length (joined (map step_item steps))
+
+-- those of a record, and how many they are
+pub record StepsOf (b : List ℕ) (steps : StepItems) : Type 0 where
+  pub meaning : Meaning
+  pub is : meaning_in b ≡ some meaning
+  pub record_is : IsRecord b meaning
+  pub count : steps.count ≡ length meaning.steps
+  pub bytes : steps.items.bytes.now ≡ b
+  pub from : steps.items.from ≡ steps_start meaning
+  pub lie : StepsLie b steps.items.from steps.items.to meaning.steps

@@ -2,26 +2,27 @@
 // every job takes any bytes, checks them itself and writes nothing.
 #![tactic(auto)]
 
-ghost use Rattle.std.specs.Prelude.{◌≡◌, ◌-◌, ◌≤◌, ◌^◌, ◌&&◌, eqb, length, take, drop};
+ghost use Rattle.std.specs.Prelude.{◌≡◌, ◌-◌, ◌≤◌, ◌&&◌, eqb, length, take, drop, MatchResult};
 ghost use Rattle.std.specs.List.{list_any};
 ghost use Rattle.std.specs.Option.{is_some as is_there};
+ghost use Rattle.refusal.specs.Told.{refusal};
 ghost use Rattle.item.specs.Kinds.{number_of};
 ghost use Rattle.utf8.specs.Utf8.{is_utf8};
 ghost use Rattle.value.specs.Walks.{Walks};
 ghost use Rattle.record.specs.Read.{field_of, as_text, as_optional, as_flag, as_items, as_command, as_expect};
 ghost use Rattle.record.specs.Jobs as definition;
 ghost use Rattle.record.specs.Jobs.{part_of, answer_of, lookup_of};
-ghost use Rattle.record.specs.Contract.{span_of, of_kinds, ItemEnds, are_texts, are_defaults, is_step, steps_in, rest_steps};
-ghost use Rattle.record.specs.Contract.{meaning_steps, record_steps, count_of};
+ghost use Rattle.record.specs.Contract.{of_kinds, ItemEnds, are_texts, are_defaults, is_step, steps_in, rest_steps};
+ghost use Rattle.record.specs.Contract.{meaning_steps, record_steps, count_of, told_of, looked_of, StepsOf};
 
 use entries::{Span, nth_item};
-use item::{Item, Items, Kind, LIMIT, header_at};
+use item::{Encoded, Item, Items, Kind, LIMIT, Part, header_at};
 use meaning::{is_built_in, is_step_field};
 use refusal::Refusal;
 use utf8::is_utf8;
 use value::value_at;
 
-// What the check of a record answers.
+/// What the check of a record answers.
 // An enum of its own, as each public job answers: what it tells has names, and the definitions name its cases.
 #[derive(Clone, Copy, Debug, PartialEq, Eq)]
 pub enum RecordAnswer {
@@ -29,13 +30,20 @@ pub enum RecordAnswer {
     Refused(Refusal),
 }
 
-// What a lookup answers: where the found item begins and ends in the record.
+/// What a lookup answers: where the found item begins and ends in the record.
 // An enum of its own, as each public job answers: what it tells has names, and the definitions name its cases.
 #[derive(Clone, Copy, Debug, PartialEq, Eq)]
 pub enum Lookup {
     Found { start: usize, end: usize },
     Nothing,
     Refused(Refusal),
+}
+
+/// The steps of a record: how many there are, and the part of it where their items stand.
+#[derive(Clone, Copy, Debug)]
+pub struct StepItems<'a> {
+    pub count: usize,
+    pub items: Part<'a>,
 }
 
 fn number_of(kind: Kind) -> usize
@@ -57,7 +65,7 @@ fn is_text(s: &[u8], item: Item) -> bool
     item.kind == Kind::Str as usize && is_utf8(&s[item.from..item.to])
 }
 
-// Whether texts fill these bytes, one behind another.
+/// Whether texts fill these bytes, one behind another.
 pub fn are_texts(s: &[u8]) -> bool
     ensures { result ≡ are_texts s.now }
 {
@@ -98,42 +106,37 @@ fn command_at(s: &[u8], at: usize) -> Option<usize>
     Some(end)
 }
 
-fn value_of(s: &[u8], at: usize, kinds: &[Kind], levels: usize) -> Option<usize>
-    requires { length s.now ≤ 2 ^ 20 }
-    ensures { Walks (field_of (of_kinds kinds.now) levels) s.now at result }
+fn value_of(s: Encoded<'_>, at: usize, kinds: &[Kind], levels: usize) -> Option<usize>
+    ensures { Walks (field_of (of_kinds kinds.now) levels) s.entry.bytes.now at result }
 {
-    let item = header_at(s, at).ok()?;
+    let item = header_at(s.bytes, at).ok()?;
     if !is_among(item.kind, kinds) {
         return None;
     }
     value_at(s, at, levels)
 }
 
-fn optional_at(s: &[u8], at: usize) -> Option<usize>
-    requires { length s.now ≤ 2 ^ 20 }
-    ensures { Walks (field_of as_optional 0) s.now at result }
+fn optional_at(s: Encoded<'_>, at: usize) -> Option<usize>
+    ensures { Walks (field_of as_optional 0) s.entry.bytes.now at result }
 {
     value_of(s, at, &[Kind::Null, Kind::Str], 0)
 }
 
-fn flag_at(s: &[u8], at: usize) -> Option<usize>
-    requires { length s.now ≤ 2 ^ 20 }
-    ensures { Walks (field_of as_flag 0) s.now at result }
+fn flag_at(s: Encoded<'_>, at: usize) -> Option<usize>
+    ensures { Walks (field_of as_flag 0) s.entry.bytes.now at result }
 {
     value_of(s, at, &[Kind::Bool], 0)
 }
 
-fn items_at(s: &[u8], at: usize) -> Option<usize>
-    requires { length s.now ≤ 2 ^ 20 }
-    ensures { Walks (field_of as_items 31) s.now at result }
+fn items_at(s: Encoded<'_>, at: usize) -> Option<usize>
+    ensures { Walks (field_of as_items 31) s.entry.bytes.now at result }
 {
     value_of(s, at, &[Kind::Seq], 31)
 }
 
 // No command that is built in has a mapping beside it.
-fn expect_at(s: &[u8], at: usize, command: &[u8]) -> Option<usize>
-    requires { length s.now ≤ 2 ^ 20 }
-    ensures { Walks (field_of (as_expect command.now) 29) s.now at result }
+fn expect_at(s: Encoded<'_>, at: usize, command: &[u8]) -> Option<usize>
+    ensures { Walks (field_of (as_expect command.now) 29) s.entry.bytes.now at result }
 {
     if is_built_in(command) {
         return value_of(s, at, &[Kind::Null], 29);
@@ -143,72 +146,67 @@ fn expect_at(s: &[u8], at: usize, command: &[u8]) -> Option<usize>
 
 // Where bytes are the content of an item, fields fill them; below each place is named after the field that begins there.
 
-fn defaults(s: &[u8]) -> Option<()>
-    requires { length s.now ≤ 2 ^ 20 }
-    ensures { is_there result ≡ are_defaults s.now }
+fn defaults(s: Encoded<'_>) -> Option<()>
+    ensures { is_there result ≡ are_defaults s.entry.bytes.now }
 {
     let wall_budget = optional_at(s, 0)?;
     let end = optional_at(s, wall_budget)?;
-    (end == s.len()).then_some(())
+    (end == s.bytes.len()).then_some(())
 }
 
-fn step_content(s: &[u8]) -> Option<()>
-    requires { length s.now ≤ 2 ^ 20 }
-    ensures { is_there result ≡ is_step s.now }
+fn step_content(s: Encoded<'_>) -> Option<()>
+    ensures { is_there result ≡ is_step s.entry.bytes.now }
 {
-    let id = text_at(s, 0)?;
-    let command = text_at(s, id)?;
-    let value = command_at(s, command)?;
+    let id = text_at(s.bytes, 0)?;
+    let command = text_at(s.bytes, id)?;
+    let value = command_at(s.bytes, command)?;
     let timeout = value_at(s, value, 29)?;
     let continues = optional_at(s, timeout)?;
     let expect = flag_at(s, continues)?;
-    let end = expect_at(s, expect, &s[command + 6..value])?;
-    (end == s.len()).then_some(())
+    let end = expect_at(s, expect, &s.all()[command + 6..value])?;
+    (end == s.bytes.len()).then_some(())
 }
 
-fn steps(s: &[u8]) -> Option<usize>
-    requires { length s.now ≤ 2 ^ 20 }
-    ensures { count_of result ≡ steps_in s.now }
+fn steps(s: Encoded<'_>) -> Option<usize>
+    ensures { count_of result ≡ steps_in s.entry.bytes.now }
 {
     let mut count = 0;
-    for item in Items::new(s) {
+    for item in Items::new(s.bytes) {
         let item = item.ok()?;
         if item.kind != Kind::Step as usize {
             return None;
         }
-        step_content(&s[item.from..item.to])?;
+        step_content(s.slice(item.from, item.to))?;
         count += 1;
     }
     Some(count)
 }
 
 // The last three fields: defaults, fail_on and steps.
-fn rest(s: &[u8], at: usize) -> Option<usize>
-    requires { length s.now ≤ 2 ^ 20 }
-    ensures { count_of result ≡ rest_steps (drop at s.now) }
+fn rest(s: Encoded<'_>, at: usize) -> Option<usize>
+    ensures { count_of result ≡ rest_steps (drop at s.entry.bytes.now) }
 {
-    let fail_on = item_of(s, at, Kind::Defaults)?;
-    defaults(&s[at + 6..fail_on])?;
+    let fail_on = item_of(s.bytes, at, Kind::Defaults)?;
+    defaults(s.slice(at + 6, fail_on))?;
     let list = items_at(s, fail_on)?;
-    let end = item_of(s, list, Kind::Steps)?;
-    if end != s.len() {
+    let end = item_of(s.bytes, list, Kind::Steps)?;
+    if end != s.bytes.len() {
         return None;
     }
-    steps(&s[list + 6..end])
+    steps(s.slice(list + 6, end))
 }
 
 // All eight fields, and how many steps the last has.
-fn fields(s: &[u8]) -> Option<usize>
-    requires { length s.now ≤ 2 ^ 20 }
-    ensures { count_of result ≡ meaning_steps s.now }
+fn fields(s: Encoded<'_>) -> Option<usize>
+    ensures { count_of result ≡ meaning_steps s.entry.bytes.now }
 {
-    let description = text_at(s, 0)?;
-    let tags = text_at(s, description)?;
-    let image = item_of(s, tags, Kind::Seq)?;
-    if !are_texts(&s[tags + 6..image]) {
+    let description = text_at(s.bytes, 0)?;
+    let tags = text_at(s.bytes, description)?;
+    let image = item_of(s.bytes, tags, Kind::Seq)?;
+    if !are_texts(&s.bytes[tags + 6..image]) {
         return None;
     }
-    let setup = text_at(s, image)?;
+    let setup = text_at(s.bytes, image)?;
     let defaults = value_at(s, setup, 31)?;
     rest(s, defaults)
 }
@@ -223,9 +221,11 @@ fn whole(record: &[u8]) -> Option<usize>
     if end != record.len() {
         return None;
     }
-    fields(&record[6..end])
+    let record = Encoded { bytes: record };
+    fields(record.slice(6, end))
 }
 
+/// Whether these bytes are a record, and how many steps it has.
 pub fn check_record(record: &[u8]) -> RecordAnswer
     ensures { answer_of result ≡ definition.check_record «record».now }
 {
@@ -235,51 +235,81 @@ pub fn check_record(record: &[u8]) -> RecordAnswer
     }
 }
 
-impl From<Option<Span>> for Lookup {
-    ghost from_gives = { λ span lookup. lookup_of lookup ≡ span_of span };
-
-    fn from(span: Option<Span>) -> Lookup {
-        match span {
-            Some(Span { start, end }) => Lookup::Found { start, end },
-            None => Lookup::Nothing,
+impl RecordAnswer {
+    /// The same, where a refusal is handed on by `?`.
+    pub fn steps(self) -> Result<usize, Refusal>
+        ensures { told_of result ≡ answer_of self }
+    {
+        match self {
+            RecordAnswer::Good { steps } => Ok(steps),
+            RecordAnswer::Refused(refusal) => Err(refusal),
         }
     }
 }
 
-// The item of the field at this place, from 1 to 8 in the order of kind 16.
+impl From<Result<Option<Span>, Refusal>> for Lookup {
+    ghost from_gives = { λ looked lookup. lookup_of lookup ≡ looked_of looked };
+
+    fn from(looked: Result<Option<Span>, Refusal>) -> Lookup {
+        match looked {
+            Ok(Some(Span { start, end })) => Lookup::Found { start, end },
+            Ok(None) => Lookup::Nothing,
+            Err(refusal) => Lookup::Refused(refusal),
+        }
+    }
+}
+
+fn field_at(record: &[u8], place: usize) -> Result<Option<Span>, Refusal>
+    ensures { looked_of result ≡ definition.field «record».now place }
+{
+    check_record(record).steps()?;
+    if place == 0 || place > 8 {
+        return Err(Refusal::OutOfRange);
+    }
+    Ok(nth_item(record, 6, place - 1))
+}
+
+/// The item of the field at this place, from 1 to 8 in the order of kind 16.
 pub fn field(record: &[u8], place: usize) -> Lookup
     ensures { lookup_of result ≡ definition.field «record».now place }
 {
-    match check_record(record) {
-        RecordAnswer::Refused(refusal) => Lookup::Refused(refusal),
-        RecordAnswer::Good { .. } => {
-            if place == 0 || place > 8 {
-                return Lookup::Refused(Refusal::OutOfRange);
-            }
-            Lookup::from(nth_item(record, 6, place - 1))
-        }
-    }
+    Lookup::from(field_at(record, place))
 }
 
-// The item of the step with this number, from 1 on.
+/// The steps of the record that these bytes are; the item of its last field holds them.
+pub fn steps_of(record: &[u8]) -> Result<StepItems<'_>, Refusal>
+    ensures { MatchResult result (StepsOf «record».now) (λ e. refusal e ≡ definition.check_record «record».now) }
+{
+    let count = check_record(record).steps()?;
+    let Some(list) = nth_item(record, 6, 7) else {
+        return Err(Refusal::Malformed);
+    };
+    let record = Encoded { bytes: record };
+    Ok(StepItems {
+        count,
+        items: record.part(list.start + 6, list.end),
+    })
+}
+
+/// The item of the step with this number, from 1 on, where a refusal is handed on by `?`.
+pub fn step_at(record: &[u8], number: usize) -> Result<Option<Span>, Refusal>
+    ensures { looked_of result ≡ definition.step «record».now number }
+{
+    let steps = steps_of(record)?;
+    if number == 0 || number > steps.count {
+        return Err(Refusal::OutOfRange);
+    }
+    Ok(nth_item(record, steps.items.from, number - 1))
+}
+
+/// The same, told as each lookup tells.
 pub fn step(record: &[u8], number: usize) -> Lookup
     ensures { lookup_of result ≡ definition.step «record».now number }
 {
-    match check_record(record) {
-        RecordAnswer::Refused(refusal) => Lookup::Refused(refusal),
-        RecordAnswer::Good { steps } => {
-            if number == 0 || number > steps {
-                return Lookup::Refused(Refusal::OutOfRange);
-            }
-            match nth_item(record, 6, 7) {
-                Some(list) => Lookup::from(nth_item(record, list.start + 6, number - 1)),
-                None => Lookup::Nothing,
-            }
-        }
-    }
+    Lookup::from(step_at(record, number))
 }
 
-// The part of the record from `start` to `end`; the empty part where these are no places of it in order.
+/// The part of the record from `start` to `end`; the empty part where these are no places of it in order.
 pub fn part(record: &[u8], start: usize, end: usize) -> &[u8]
     ensures { result.now ≡ part_of «record».now start end }
 {

@@ -5,6 +5,7 @@
 ghost use Rattle.std.specs.Prelude.{◌≡◌};
 ghost use Rattle.refusal.specs.Told.{told, told_of};
 
+/// The reason of a refusal. Lines and steps count from 1.
 #[derive(Clone, Copy, Debug, PartialEq, Eq)]
 pub enum Refusal {
     TextTooLong,
@@ -58,7 +59,7 @@ pub enum Refusal {
     ListTooShort,
 }
 
-// What an answer names of a refusal, 0 where it names none.
+/// What an answer names of a refusal, 0 where it names none.
 #[derive(Clone, Copy, Debug, Default, PartialEq, Eq)]
 pub struct Told {
     pub number: u32,
@@ -73,6 +74,7 @@ fn tell(number: u32, line: u32, step: u32) -> Told
 }
 
 impl Refusal {
+    /// The number, the line and the step that an answer names.
     pub fn told(self) -> Told
         ensures { result ≡ told_of self }
     {

@@ -1,4 +1,4 @@
-// The line entries of a text.
+// The rows of a text's lines.
 use crate::print::Hex;
 use crate::stream::LONGEST;
 use console::Numbers;

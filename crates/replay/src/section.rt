@@ -136,8 +136,5 @@ pub(crate) fn next_section(input: &mut impl Read) -> io::Result<Option<Section>>
         number_at(&head, 8),
         number_at(&head, 12),
     );
-    match section {
-        Some(section) => Ok(Some(section)),
-        None => Err(io::Error::from(ErrorKind::InvalidData)),
-    }
+    Ok(Some(section.ok_or(io::Error::from(ErrorKind::InvalidData))?))
 }

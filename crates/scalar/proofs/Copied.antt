@@ -1,15 +1,8 @@
 -- A quoted string that takes one place for each of its bytes and one for the closing quote has nothing escaped: its bytes stand in the text
 -- as they are. Assumes nothing.
 use Rattle.std.specs.Prelude.{if◌then◌else◌}
-use mathlib.Core.Path.{◌≡◌, refl, sym, ap}
-use Prim.Native.Nat.{ℕ, suc, ◌+◌, ◌-◌, ◌≤◌, ◌<◌}
-use native.Mathlib.Omega.{arith}
-use mathlib.Core.List.{List, [], ◌∷◌}
-use mathlib.Core.Bool.{Bool, true, false}
-use mathlib.Core.Option.{Option, none, some}
-use mathlib.Core.Logic.{◌⊎◌, inl, inr, ⊎_elim}
-use lib.Dec.{eqb}
-use lib.ListN.{length, take, drop, length-drop}
+use Rattle.std.proofs.Common.{◌≡◌, refl, sym, ap, ℕ, suc, ◌+◌, ◌-◌, ◌≤◌, ◌<◌, arith, List, [], ◌∷◌, Bool, true, false, ◌⊎◌, inl, inr, ⊎_elim, eqb, length, take, drop, length-drop}
+use Rattle.std.proofs.Math.Option.{Option, none, some}
 use Rattle.refusal.specs.Base.{good, refused, ch}
 use Rattle.refusal.proofs.Tools.{good-inj, refused≢good}
 use Rattle.utf8.specs.Part.{part}

@@ -1,34 +1,16 @@
 -- What the code's branches tell of the definitions of the key search. Assumes nothing.
 use Rattle.std.specs.Prelude.{Option, Some, None, is_some, if◌then◌else◌}
-use mathlib.Core.Path.{◌≡◌, refl, sym}
-use mathlib.Core.Logic.{◌⊎◌, inl, inr}
-use Prim.Native.Nat.{ℕ, suc, ◌+◌, ◌-◌, ◌<◌, ◌≤◌}
-use native.Mathlib.Omega.{arith}
-use mathlib.Core.Bool.{Bool, true, false, not, and-false}
-use mathlib.Core.List.{List}
-use mathlib.Core.Option.{none, some}
-use lib.Dec.{eqb}
-use lib.ListN.{length, drop, get_or, drop_of_length-le}
-use native.Mathlib.Numerals.{add-one}
-use lib.Seq.{drop-cons}
-use borrow.Author.Tests.{eq-eqb, ne_eqb}
+use Rattle.std.proofs.Common.{◌≡◌, refl, sym, ◌⊎◌, inl, inr, ℕ, suc, ◌+◌, ◌-◌, ◌<◌, ◌≤◌, arith, Bool, true, false, not, List, eqb, length, drop, get_or, drop_of_length-le, add-one, drop-cons, ne_eqb}
+use Rattle.std.proofs.Math.Bool.{and-false}
+use Rattle.std.proofs.Math.Option.{none, some}
 use Rattle.scalar.specs.Key.{quote_after, depth_after, opens, closes, last_or_space, qualifies, key_end_from}
 use Rattle.scalar.specs.declared.Quote.{Quote}
 use Rattle.scalar.specs.declared.Quote.TheVariants.{Single, Double}
 use Rattle.scalar.specs.Code.{open_of, Passes}
 
-pub q-open : (q b : ℕ) → q ≡ 0 → (b ≡ 34) ⊎ (b ≡ 39) → b ≡ quote_after q b
-unfolding quote_after
-q-open q b h (inl e) = rw (h, e)
-q-open q b h (inr e) = rw (h, e)
-
 pub q-plain : (q b : ℕ) → q ≡ 0 → ((b ≡ 34) ⊎ (b ≡ 39) → ⊥) → 0 ≡ quote_after q b
 unfolding quote_after
 q-plain q b h n = rw (h, ne_eqb b 39 (λ e. n (inr e)), ne_eqb b 34 (λ e. n (inl e)))
-
-pub q-close : (q b : ℕ) → (q ≡ 0 → ⊥) → b ≡ q → 0 ≡ quote_after q b
-unfolding quote_after
-q-close q b h e = rw (ne_eqb q 0 h, eq-eqb b q e)
 
 pub q-stay : (q b : ℕ) → (q ≡ 0 → ⊥) → (b ≡ q → ⊥) → q ≡ quote_after q b
 unfolding quote_after
@@ -37,16 +19,6 @@ q-stay q b h e = rw (ne_eqb q 0 h, ne_eqb b q e)
 pub d-quoted : (q d b : ℕ) → (q ≡ 0 → ⊥) → d ≡ depth_after q d b
 unfolding depth_after
 d-quoted q d b h = rw (ne_eqb q 0 h)
-
-pub d-open : (q d b : ℕ) → q ≡ 0 → (b ≡ 91) ⊎ (b ≡ 123) → d + 1 ≡ depth_after q d b
-unfolding depth_after opens
-d-open q d b h (inl e) = rw (h, e) (omega arith)
-d-open q d b h (inr e) = rw (h, e) (omega arith)
-
-pub d-close : (q d b : ℕ) → q ≡ 0 → (b ≡ 93) ⊎ (b ≡ 125) → d - 1 ≡ depth_after q d b
-unfolding depth_after opens closes
-d-close q d b h (inl e) = rw (h, e)
-d-close q d b h (inr e) = rw (h, e)
 
 pub d-other : (q d b : ℕ) → q ≡ 0 → ((b ≡ 91) ⊎ (b ≡ 123) → ⊥) → ((b ≡ 93) ⊎ (b ≡ 125) → ⊥) → d ≡ depth_after q d b
 unfolding depth_after opens closes

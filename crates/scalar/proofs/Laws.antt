@@ -1,16 +1,10 @@
 -- Laws of scalars: what they are written as, and where plain text ends. Assumes nothing.
 use Rattle.std.specs.Prelude.{if◌then◌else◌}
-use mathlib.Core.Path.{◌≡◌, refl, sym, ap, ◌∙◌}
-use Prim.Native.Nat.{ℕ, suc, ◌+◌, ◌-◌, ◌≤◌, ◌<◌}
-use native.Mathlib.Numerals.{add-one}
-use native.Mathlib.Omega.{arith}
-use mathlib.Core.List.{List, [], ◌∷◌}
-use mathlib.Core.Bool.{Bool, true, false, ◌&&◌, ◌||◌, or-false}
-use mathlib.Core.Option.{Option, none, some}
-use lib.ListN.{length, take, drop, get_or, drop_of_length-le}
-use lib.IntN.{ℤ}
-use lib.Seq.{length-sets, drop-cons, drop-drop}
-use borrow.Author.Tests.{le-leb, lt-leb, ne_eqb}
+use Rattle.std.proofs.Common.{◌≡◌, refl, sym, ap, ◌∙◌, ℕ, suc, ◌+◌, ◌-◌, ◌≤◌, ◌<◌, add-one, arith, List, [], ◌∷◌, Bool, true, false, ◌&&◌, ◌||◌, length, take, drop, get_or, drop_of_length-le, ℤ, drop-cons, drop-drop, le-leb, ne_eqb}
+use Rattle.std.proofs.Math.Bool.{or-false}
+use Rattle.std.proofs.Math.Option.{Option, none, some}
+use Rattle.std.proofs.Math.Seq.{length-sets}
+use Rattle.std.proofs.lemmas.Bool.{lt-leb}
 use Rattle.refusal.specs.Base.{◌>>=◌, ch, bytes, same, one_of}
 use Rattle.refusal.specs.declared.Refusal.{Refusal}
 use Rattle.item.specs.Tree.{Yaml, null, bool, int, str, seq, dict}
@@ -22,6 +16,8 @@ use Rattle.writer.specs.Writing.{cap_of, Appends, Lacks}
 use Rattle.writer.proofs.Laws.{keeps_same}
 use Rattle.utf8.specs.Part.{part}
 use Rattle.utf8.specs.White.{trim}
+use Rattle.utf8.specs.Places.{First}
+use Rattle.utf8.proofs.Places.{counts}
 use Rattle.number.specs.Integers.{integer, int_text}
 use Rattle.scalar.specs.declared.Role.{Role}
 use Rattle.scalar.specs.declared.Role.TheVariants.{AsValue, AsKey}
@@ -160,6 +156,13 @@ module _ (s : List ℕ) (i : ℕ) where
     pub plain-on : stops_plain (get_or s i 0) (drop (i + 1) s) ≡ false → plain_len true (drop i s) ≡ suc (plain_len true (drop (i + 1) s))
     unfolding plain_len
     plain-on e = let d : drop i s ≡ get_or s i 0 ∷ drop (i + 1) s = rw add-one (drop-cons s i 0 h) in rw (d, e)
+
+-- where plain text in a collection ends
+pub plain_found : (s : List ℕ) (i r : ℕ)
+    → First (λ k. stops_plain (get_or s k 0) (drop (k + 1) s) ≡ true) (λ k. stops_plain (get_or s k 0) (drop (k + 1) s) ≡ false) i (length s) r
+    → r ≡ i + plain_len true (drop i s)
+plain_found s i r f =
+    counts (λ k. plain_len true (drop k s)) f (λ k h e. plain-on s k h e) (λ k h e. plain_here s k h e) (plain-none s (length s) true (omega arith))
 
 pub plain_top : (s : List ℕ) → plain_len false s ≡ length s
 unfolding plain_len

@@ -1,15 +1,7 @@
 -- Laws of quoted strings: what stands at a place, and what is passed up to it. Assumes nothing.
 use Rattle.std.specs.Prelude.{Result, Ok, Err, Option as Chance, Some, None, ok_or}
-use mathlib.Core.Path.{◌≡◌, refl, sym, ap, ◌∙◌}
-use Prim.Native.Nat.{ℕ, suc, ◌+◌, ◌≤◌, ◌<◌}
-use native.Mathlib.Numerals.{add-one}
-use native.Mathlib.Omega.{arith}
-use mathlib.Core.List.{List, [], ◌∷◌, ◌++◌}
-use mathlib.Core.Bool.{true, false}
-use mathlib.Core.Option.{Option, none, some}
-use lib.ListN.{length, take, drop, get_or, drop_of_length-le, length-append}
-use lib.Seq.{drop-cons, take-suc, take_all}
-use borrow.Author.Tests.{eq-eqb, ne_eqb}
+use Rattle.std.proofs.Common.{◌≡◌, refl, sym, ap, ◌∙◌, ℕ, suc, ◌+◌, ◌≤◌, ◌<◌, add-one, arith, List, [], ◌∷◌, ◌++◌, true, false, length, take, drop, get_or, drop_of_length-le, length-append, drop-cons, take-suc, take_all, eq-eqb, ne_eqb}
+use Rattle.std.proofs.Math.Option.{Option, none, some}
 use Rattle.refusal.specs.Base.{good, refused, ◌>>=◌, ch}
 use Rattle.refusal.specs.Told.{refusal}
 use Rattle.refusal.proofs.Tools.{good-inj, refused≢good}

@@ -1,16 +1,10 @@
 -- P4 of document 02: which plain scalars are strings; and that the key text of a plain scalar, null, booleans
 -- and `-0` aside, is what was written. Assumes nothing.
 use Rattle.std.specs.Prelude.{if◌then◌else◌}
-use mathlib.Core.Path.{◌≡◌, refl, sym, ap, ◌∙◌}
-use Prim.Native.Nat.{ℕ, ◌+◌, ◌*◌, ◌-◌, ◌/◌, ◌%◌, ◌^◌, ◌≤◌, ◌<◌}
-use native.Mathlib.Omega.{arith}
-use mathlib.Core.List.{List, [], ◌∷◌, ◌++◌, append-nil}
-use mathlib.Core.Bool.{Bool, true, false, ◌&&◌, not, true≢false}
-use mathlib.Core.Option.{Option, none, some, none-ne-some}
-use lib.Dec.{leb, eqb}
-use lib.IntN.{ℤ}
-use lib.Seq.{append_snoc}
-use borrow.Author.Tests.{leb-true, eqb-true, eqb-false}
+use Rattle.std.proofs.Common.{◌≡◌, refl, sym, ap, ◌∙◌, ℕ, ◌+◌, ◌*◌, ◌-◌, ◌/◌, ◌%◌, ◌^◌, ◌≤◌, ◌<◌, arith, List, [], ◌∷◌, ◌++◌, append-nil, Bool, true, false, ◌&&◌, not, true≢false, leb, eqb, ℤ, leb-true, eqb-true}
+use Rattle.std.proofs.Math.Option.{Option, none, some, none-ne-some}
+use Rattle.std.proofs.Math.Seq.{append_snoc}
+use Rattle.std.proofs.lemmas.Bool.{eqb-false}
 use Rattle.refusal.specs.Base.{ch, bytes, same, one_of, empty}
 use Rattle.refusal.proofs.Open.{Base-open}
 use Rattle.refusal.proofs.Tools.{chosen}

@@ -1,10 +1,11 @@
 // The search for a key's end: the first colon outside quotes and brackets that is last or stands before a space.
-ghost use Rattle.std.specs.Prelude.{◌≡◌, false, ℕ, Option, ◌≤◌, ◌<◌, ◌^◌, length, drop};
+ghost use Rattle.std.specs.Prelude.{◌≡◌, ℕ, Option, ◌≤◌, ◌<◌, ◌^◌, length, drop};
 ghost use Rattle.scalar.specs.Key.{quote_after, depth_after, qualifies, key_end_from, key_end};
-ghost use Rattle.scalar.specs.Code.{found_of, byte_of, open_of, Passes};
+ghost use Rattle.scalar.specs.Code.{found_of, byte_of, open_of};
 
 use super::Quote;
 use item::Found;
+use utf8::first_place;
 
 impl Quote {
     // The byte that opens a string and closes it.
@@ -63,28 +64,19 @@ fn colon_at(s: &[u8], quote: Option<Quote>, depth: usize, i: usize) -> bool
     i + 1 == s.len() || s[i + 1] == b' '
 }
 
-// Whether the search does something at a byte: at a colon, a quote or a bracket.
-fn marks(b: u8) -> bool
-    ensures { result ≡ false → Passes b }
-{
-    matches!(b, b':' | b'\'' | b'"' | b'{' | b'}' | b'[' | b']')
-}
-
-// Where the next byte stands at which the search does something, or the text's end.
+// Where the next byte stands at which the search does something, a colon, a quote or a bracket, or the text's end.
 fn skip_passed(s: &[u8], from: usize) -> usize
     requires { from ≤ length s.now }
     ensures in_range { (from ≤ result) × (result ≤ length s.now) }
     ensures same { (quote : Option Quote) (depth : ℕ)
         → key_end_from (open_of quote) depth result (drop result s.now) ≡ key_end_from (open_of quote) depth from (drop from s.now) }
 {
-    for i in from..s.len() {
-        if marks(s[i]) {
-            return i;
-        }
-    }
-    s.len()
+    first_place(from, s.len(), |i| {
+        matches!(s[i], b':' | b'\'' | b'"' | b'{' | b'}' | b'[' | b']')
+    })
 }
 
+/// Where the colon stands that ends a key: the first outside quotes and brackets that is last or stands before a space.
 // A loop that yields the place by `break`: it carries the quote and the depth from mark to mark.
 pub fn key_end(s: &[u8]) -> Found
     requires { length s.now ≤ 65535 }

@@ -15,7 +15,7 @@ use super::{Parsed, Role, Stops};
 use item::{Integer, Kind, same_bytes};
 use number::{int_len, integer, put_int_text};
 use refusal::Refusal;
-use utf8::trimmed;
+use utf8::{first_place, trimmed};
 use writer::Writer;
 
 // What a plain text says; a string is the text itself.
@@ -212,7 +212,7 @@ fn ends_item(b: u8) -> bool
     matches!(b, b',' | b'}' | b']')
 }
 
-/// Whether a colon before the place `i` ends plain text in flow.
+/// Whether a colon before the place `i` ends plain text in flow: one that is last, or before a space or a byte that ends an item.
 pub fn ends_colon(s: &[u8], i: usize) -> bool
     requires { i ≤ length s.now }
     ensures { result ≡ ends_colon (drop i s.now) }
@@ -250,14 +250,11 @@ fn flow_end(s: &[u8], i: usize) -> usize
     ensures here { result ≡ i + plain_len true (drop i s.now) }
     ensures in_range { result ≤ length s.now }
 {
-    for end in i..s.len() {
-        if stops_plain(s, end) {
-            return end;
-        }
-    }
-    s.len()
+    first_place(i, s.len(), |end| stops_plain(s, end))
 }
 
+/// The plain scalar at `i`, without the white space around it: what it says, or its text if it says nothing else. It is refused only
+/// where it has no room.
 pub fn plain(
     s: &[u8],
     i: usize,

@@ -154,7 +154,8 @@ fn put_content(quote: Quote, s: &[u8], i: usize, span: Span, line: u32, writer: 
     }
 }
 
-/// The string behind an opening quote. It is the same in a key's place.
+/// The string behind an opening quote, which stands before `i`. It is the same in a key's place. A string that does not end is refused,
+/// then an escape that is cut or not known, and then one for which there is no room.
 pub fn quoted(
     quote: Quote,
     s: &[u8],

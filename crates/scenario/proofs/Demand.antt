@@ -1,12 +1,6 @@
 -- Demand 3 over the definitions: of accepted texts, records and meanings tell each other, and lookups give a meaning back. Assumes nothing.
-use mathlib.Core.Path.{◌≡◌, refl, sym, ap, ◌∙◌, subst}
-use Prim.Native.Nat.{ℕ, suc, ◌≤◌, ◌<◌, min, ◌^◌}
-use native.Mathlib.Omega.{arith}
-use mathlib.Core.List.{List, [], ◌∷◌, map}
-use mathlib.Core.Option.{some}
-use lib.Dec.{leb}
-use lib.ListN.{length, get_or}
-use borrow.Author.Tests.{leb-true}
+use Rattle.std.proofs.Common.{◌≡◌, refl, sym, ap, ◌∙◌, subst, ℕ, suc, ◌≤◌, ◌<◌, min, ◌^◌, arith, List, [], ◌∷◌, map, leb, length, get_or, leb-true}
+use Rattle.std.proofs.Math.Option.{some}
 use Rattle.refusal.specs.Base.{good, refused, ◌>>=◌, ◌>>◌, ensure, given}
 use Rattle.refusal.proofs.Tools.{ensured, good-inj, bound}
 use Rattle.item.specs.Encode.{Bytes}

@@ -1,10 +1,6 @@
 -- The try-out scenario of document 01, and texts that are no scenario, computed from the definitions in one table. Assumes nothing.
-use mathlib.Core.Path.{◌≡◌, refl}
-use Prim.Native.Nat.{ℕ}
+use Rattle.std.proofs.Common.{◌≡◌, refl, ℕ, List, [], ◌∷◌, map, true, length}
 use Prim.Native.String.{String}
-use mathlib.Core.List.{List, [], ◌∷◌, map}
-use mathlib.Core.Bool.{true}
-use lib.ListN.{length}
 use Rattle.refusal.specs.Base.{Answer, good, refused, ◌>>=◌, bytes, same}
 use Rattle.refusal.proofs.Open.{Base-open}
 use Rattle.utf8.proofs.Open.{Utf8-open, White-open}

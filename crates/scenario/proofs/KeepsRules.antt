@@ -1,13 +1,7 @@
 -- The meaning of a sound tree keeps the rules that the record check holds a record against. Assumes nothing.
-use mathlib.Core.Path.{◌≡◌, refl, ap, subst}
-use Prim.Native.Nat.{ℕ, suc, ◌≤◌, ◌^◌}
-use native.Mathlib.Omega.{arith}
-use mathlib.Core.List.{List}
-use mathlib.Core.Bool.{true, false}
-use mathlib.Core.Option.{Option, none, some}
-use lib.ListN.{length}
-use lib.Signed.{mag}
-use borrow.Author.Tests.{lt-ltb}
+use Rattle.std.proofs.Common.{◌≡◌, refl, ap, subst, ℕ, suc, ◌≤◌, ◌^◌, arith, List, true, false, length, lt-ltb}
+use Rattle.std.proofs.Math.Option.{Option, none, some}
+use Rattle.std.specs.Int.Signed.{mag}
 use Rattle.refusal.specs.Base.{good, ◌>>◌, ensure, given, maybe, bytes, same, one_of, limit}
 use Rattle.refusal.proofs.Tools.{good-inj, refused≢good, bound, bound', chosen, gave}
 use Rattle.utf8.proofs.Utf8Laws.{utf8_nil}

@@ -1,13 +1,6 @@
 -- What is lent decides only 50, 51 and 52 (demand 2): a text is accepted exactly when it is enough, and what is read is the text's alone. Assumes nothing.
-use mathlib.Core.Path.{◌≡◌, refl, sym, ap, ◌∙◌}
-use Prim.Native.Nat.{ℕ, ◌≤◌, ◌<◌, min, ◌^◌}
-use native.Mathlib.Omega.{arith}
-use mathlib.Core.List.{List}
-use mathlib.Core.Bool.{Bool, true, false}
-use mathlib.Core.Logic.{◌⊎◌, inl, inr}
-use lib.Dec.{leb}
-use lib.ListN.{length}
-use borrow.Author.Tests.{le-leb, lt-leb}
+use Rattle.std.proofs.Common.{◌≡◌, refl, sym, ap, ◌∙◌, ℕ, ◌≤◌, ◌<◌, min, ◌^◌, arith, List, Bool, true, false, ◌⊎◌, inl, inr, leb, length, le-leb}
+use Rattle.std.proofs.lemmas.Bool.{lt-leb}
 use Rattle.refusal.specs.Base.{Answer, good, refused, ◌>>=◌, ◌>>◌, ensure}
 use Rattle.refusal.proofs.Tools.{good-inj, refused≢good, bound}
 use Rattle.item.specs.Tree.{Yaml}

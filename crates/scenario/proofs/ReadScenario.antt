@@ -1,11 +1,6 @@
 -- What follows from the contract of `read_scenario` for whoever calls it, for all that was lent and whatever it held before. Assumes nothing.
-use mathlib.Core.Path.{◌≡◌, refl, sym, ap, ◌∙◌}
-use Prim.Native.Nat.{ℕ, ◌*◌, ◌≤◌}
-use native.Mathlib.Omega.{arith}
-use mathlib.Core.List.{List}
-use mathlib.Core.Option.{some}
-use lib.ListN.{length, take, drop}
-use lib.Seq.{take_at, drop_at}
+use Rattle.std.proofs.Common.{◌≡◌, refl, sym, ap, ◌∙◌, ℕ, ◌*◌, ◌≤◌, arith, List, length, take, drop, take_at, drop_at}
+use Rattle.std.proofs.Math.Option.{some}
 use Rattle.refusal.specs.Base.{Answer, good, refused}
 use Rattle.refusal.specs.Told.{told_of}
 use Rattle.refusal.specs.declared.Refusal.{Refusal}

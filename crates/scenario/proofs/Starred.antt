@@ -1,10 +1,7 @@
 -- The starred try-out texts of document 01 in one table, with what P4 of document 02 makes of two of them and the one of P3, proved together
 -- about the definitions of both jobs. Assumes nothing.
-use mathlib.Core.Path.{◌≡◌, refl}
-use Prim.Native.Nat.{ℕ}
+use Rattle.std.proofs.Common.{◌≡◌, refl, ℕ, List, [], ◌∷◌, map, pos, negsuc}
 use Prim.Native.String.{String}
-use mathlib.Core.List.{List, [], ◌∷◌, map}
-use lib.IntN.{pos, negsuc}
 use Rattle.refusal.specs.Base.{Answer, good, refused, bytes}
 use Rattle.refusal.proofs.Open.{Base-open}
 use Rattle.utf8.proofs.Open.{Utf8-open, White-open}

@@ -1,7 +1,5 @@
 -- The record of a meaning: the fields before the steps, the steps, the header. Assumes nothing.
-use mathlib.Core.Path.{◌≡◌}
-use Prim.Native.Nat.{ℕ}
-use mathlib.Core.List.{List, ◌++◌, append_assoc, append-nil}
+use Rattle.std.proofs.Common.{◌≡◌, ℕ, List, ◌++◌, append_assoc, append-nil}
 use Rattle.refusal.specs.Base.{good, refused, ◌>>=◌}
 use Rattle.item.specs.Tree.{Yaml}
 use Rattle.meaning.specs.Meaning.{Step}

@@ -10,17 +10,16 @@ ghost use Rattle.entries.specs.Entries.{Stands, Holds};
 ghost use Rattle.nodes.specs.Writing.{Goes};
 ghost use Rattle.meaning.specs.Record.{steps_item, record_of};
 ghost use Rattle.meaning.specs.Meanings.{steps_from, meaning_of};
-ghost use Rattle.top.specs.Contract.{RangeInside};
 ghost use Rattle.scenario.specs.Scenario.{scenario_of, output, tree_bytes, record_bytes, step_numbers, answer_of, sizes_of};
 ghost use Rattle.scenario.specs.Contract.{WritesSteps, AgreesScenario};
 
-use item::{Items, Kind, LIMIT};
+use item::{Encoded, Item, Kind, LIMIT, Part};
 use lines::{Lines, MOST_LINES, Row};
 use nodes::RecordWriter;
 use refusal::Refusal;
 use step::step_at;
 use step_lines::{first_dash, next_dash};
-use top::{Range, put_top, read_top};
+use top::{put_top, read_top};
 use tree::{counted, read_with};
 
 /// What reading a scenario answers: the bytes of each output, and how many steps there are.
@@ -45,7 +44,8 @@ struct Sizes {
     steps: usize,
 }
 
-// Stores a number if there is a place for it. Two other crates have such a function; one shared would be no plainer, being a crate of itself.
+// Stores a number if there is a place for it, by index, since what is written through `get_mut` is not known afterwards. Two other crates have
+// such a function; one shared would be no plainer, being a crate of itself.
 fn store(lines: &mut [u32], i: usize, n: u32)
     ensures { i < length lines.old → lines.new ≡ set lines.old i n }
 {
@@ -54,24 +54,23 @@ fn store(lines: &mut [u32], i: usize, n: u32)
     }
 }
 
-// The steps of the items that stand in `range`, and their lines; it tells how many they are.
+// The steps of the items that stand in a part, and their lines; it tells how many they are.
 fn put_steps(
-    s: &[u8],
-    range: Range,
+    part: Part<'_>,
     text: &Lines<'_>,
     writer: &mut RecordWriter<'_>,
     lines: &mut [u32],
 ) -> Result<usize, Refusal>
-    requires { RangeInside s.now range × (length s.now ≤ 2 ^ 20) }
     ensures goes { Goes writer.old writer.new }
-    ensures steps { (ys : trees.Items) → Holds s.now range.from range.to ys
+    ensures steps { (ys : trees.Items) → Holds part.entry.bytes.now part.entry.from part.entry.to ys
         → WritesSteps (λ lines. steps_from 1 lines ys) steps_item (λ ss. ss) text.now writer.old writer.new lines.old lines.new result }
 {
+    let s = part.encoded();
     let first = first_dash(text);
     let header = writer.open();
     let mut steps = 0;
     let mut d = first.at;
-    for item in Items::within(s, range.from, range.to) {
+    for item in part.walk::<Item>() {
         let number = (steps + 1) as u32;
         let Ok(item) = item else {
             return Err(Refusal::StepNotMapping { step: number });
@@ -88,20 +87,19 @@ fn put_steps(
 
 // The record of the tree that stands at the front: its parts are read, then its fields written, at last its header.
 fn put_record(
-    s: &[u8],
+    s: Encoded<'_>,
     text: &Lines<'_>,
     writer: &mut RecordWriter<'_>,
     lines: &mut [u32],
 ) -> Result<usize, Refusal>
-    requires { length s.now ≤ 2 ^ 20 }
     ensures goes { Goes writer.old writer.new }
-    ensures whole { (y : Yaml) → Ranged y → Stands s.now 0 (encode y)
+    ensures whole { (y : Yaml) → Ranged y → Stands s.entry.bytes.now 0 (encode y)
         → WritesSteps (λ lines. meaning_of lines y) record_of (λ m. m.steps) text.now writer.old writer.new lines.old lines.new result }
 {
     let top = read_top(s)?;
     let header = writer.open();
     put_top(s, top, writer);
-    let steps = put_steps(s, top.steps, text, writer, lines)?;
+    let steps = put_steps(top.steps, text, writer, lines)?;
     writer.close(header, Kind::Scenario);
     Ok(steps)
 }
@@ -121,7 +119,7 @@ fn read(
     let tree = read_with(text, rows, work)?;
     let text = Lines::new(text, &rows[..tree.count]);
     let mut writer = RecordWriter::new(record);
-    let steps = put_record(work, &text, &mut writer, lines)?;
+    let steps = put_record(Encoded { bytes: work }, &text, &mut writer, lines)?;
     let end = writer.end;
     if steps > lines.len() {
         return Err(Refusal::TooFewLinePlaces);

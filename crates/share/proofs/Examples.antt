@@ -1,7 +1,5 @@
 -- Beats worked out by the definition. Assumes nothing.
-use mathlib.Core.Path.{◌≡◌, refl}
-use mathlib.Core.List.{[], ◌∷◌}
-use lib.ListN.{replicate}
+use Rattle.std.proofs.Common.{◌≡◌, refl, [], ◌∷◌, replicate}
 use Rattle.refusal.specs.Base.{good, refused}
 use Rattle.refusal.proofs.Open.{Base-open}
 use Rattle.share.specs.Share.{gots, sum, up_to, first_shares, stroke, round, rounds, shares, eight, greatest, share}

@@ -16,6 +16,7 @@ const MOST_DRUMS: usize = 8;
 // That a drum may wish for in a beat.
 const MOST_STROKES: u32 = 255;
 
+/// Whether strokes are given, or why not.
 // An enum of its own, as each public job answers: what it tells has names, and the definitions name its cases.
 #[derive(Clone, Copy, Debug, PartialEq, Eq)]
 pub enum ShareAnswer {
@@ -23,11 +24,18 @@ pub enum ShareAnswer {
     Refused(Refusal),
 }
 
-// What eight drums get, in their order: 0 for those that are not there, and for all on a refusal.
+/// What eight drums get, in their order: 0 for those that are not there, and for all on a refusal.
 #[derive(Clone, Copy, Debug, PartialEq, Eq)]
 pub struct Shares {
     pub answer: ShareAnswer,
     pub strokes: [u32; MOST_DRUMS],
+}
+
+// What drums wish for, of which there are not too many.
+#[derive(Clone, Copy)]
+struct Wishes<'a> {
+    each: &'a [u32],
+    ghost few: { length each.now ≤ 8 },
 }
 
 // Whole rounds, and what is left for one that is not whole.
@@ -46,22 +54,20 @@ fn greatest_of(wishes: &[u32]) -> Option<u32>
 }
 
 // The strokes of so many rounds, in each of which every drum that still wants gets one.
-fn strokes_of(wishes: &[u32], rounds: u32) -> u32
-    requires few { length wishes.now ≤ 8 }
-    requires small { rounds ≤ 255 }
-    ensures { result ≡ sum (gots (up_to rounds wishes.now)) }
+fn strokes_of(wishes: Wishes<'_>, rounds: u32) -> u32
+    requires { rounds ≤ 255 }
+    ensures { result ≡ sum (gots (up_to rounds wishes.entry.each.now)) }
 {
-    wishes.iter().map(|&wish| wish.min(rounds)).sum()
+    wishes.each.iter().map(|&wish| wish.min(rounds)).sum()
 }
 
 // As many whole rounds as the supply allows, of those that the drum with the greatest wish wants, found by halving. The first shares are
 // whole rounds too, so these are counted from nothing. A `while`, as there is no list to search.
 #[tactic(auto, using(crate::proofs::Laws::up_to_none))]
-fn whole_rounds(wishes: &[u32], most: u32, allowed: u32) -> Rounds
-    requires few { length wishes.now ≤ 8 }
-    requires is_greatest { most ≡ greatest wishes.now }
+fn whole_rounds(wishes: Wishes<'_>, most: u32, allowed: u32) -> Rounds
+    requires is_greatest { most ≡ greatest wishes.each.now }
     requires small { most ≤ 255 }
-    ensures { Whole wishes.now allowed result.whole result.rest }
+    ensures { Whole wishes.entry.each.now allowed result.whole result.rest }
 {
     let mut whole = 0;
     let mut rest = allowed;
@@ -89,14 +95,13 @@ fn stroke(wish: u32, got: u32, left: u32) -> u32
 
 // What the drums have after the whole rounds and one with the rest.
 #[tactic(auto, using(crate::proofs::Turns::turns))]
-fn last_round(wishes: &[u32], rounds: Rounds) -> [u32; MOST_DRUMS]
-    requires few { length wishes.now ≤ 8 }
-    requires small { rounds.whole ≤ 255 }
-    ensures { result ≡ eight (gots (round rounds.rest (up_to rounds.whole wishes.now))) }
+fn last_round(wishes: Wishes<'_>, rounds: Rounds) -> [u32; MOST_DRUMS]
+    requires { rounds.whole ≤ 255 }
+    ensures { result ≡ eight (gots (round rounds.rest (up_to rounds.whole wishes.entry.each.now))) }
 {
     let mut left = rounds.rest;
     let mut strokes = [0; MOST_DRUMS];
-    for (i, &wish) in wishes.iter().enumerate() {
+    for (i, &wish) in wishes.each.iter().enumerate() {
         let got = wish.min(rounds.whole);
         let more = stroke(wish, got, left);
         strokes[i] = got + more;
@@ -122,9 +127,12 @@ fn strokes_given(wishes: &[u32], allowed: u32) -> Result<[u32; MOST_DRUMS], Refu
     if (allowed as usize) < wishes.len() {
         return Err(Refusal::SupplyTooSmall);
     }
+    let wishes = Wishes { each: wishes };
     Ok(last_round(wishes, whole_rounds(wishes, most, allowed)))
 }
 
+/// Shares what one supply allows in a beat among at most eight drums, each of which wishes for at most 255 strokes. Refused with 61 where there
+/// is no drum, or more drums or strokes; then with 62 where the supply allows less than a stroke for each drum.
 #[tactic(auto, unfolding(crate::specs::Share::numbers_of))]
 pub fn share(wishes: &[u32], allowed: u32) -> Shares
     ensures answer { answer_of result.answer result.strokes ≡ definition.share wishes.now allowed }

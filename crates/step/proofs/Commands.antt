@@ -1,11 +1,7 @@
 -- A walk along entries: what the entries passed say of the step fields and of the command. Assumes nothing.
 use Rattle.std.specs.Prelude.{if◌then◌else◌}
-use mathlib.Core.Path.{◌≡◌, refl, ap, sym, ◌∙◌}
-use Prim.Native.Nat.{ℕ, ◌-◌, ◌≤◌}
-use mathlib.Core.List.{List}
-use mathlib.Core.Bool.{Bool, true, false, ◌||◌}
-use mathlib.Core.Option.{some}
-use lib.ListN.{length, take, drop}
+use Rattle.std.proofs.Common.{◌≡◌, refl, ap, sym, ◌∙◌, ℕ, ◌-◌, ◌≤◌, List, Bool, true, false, ◌||◌, length, take, drop}
+use Rattle.std.proofs.Math.Option.{some}
 use Rattle.refusal.specs.Base.{refused, one_of, same, bytes}
 use Rattle.item.specs.Tree.{Yaml, Entries, done, pair, get}
 use Rattle.item.specs.declared.Found.{Found}
@@ -80,17 +76,6 @@ pub record Left (s : List ℕ) (to at : ℕ) (es : Entries) (f : StepFields) : T
   pub continue : FieldLeft s (bytes "continue_on_error") es rest f.continues
   pub expect : FieldLeft s (bytes "expect") es rest f.expect
   pub command : CommandLeft s es rest f.command
-
--- nothing is passed yet
-pub walk_start : {s : List ℕ} {to at : ℕ} (es : Entries) → Holds s at to es → Left s to at es (record {
-  name = found.Nothing;
-  id = found.Nothing;
-  timeout = found.Nothing;
-  continues = found.Nothing;
-  expect = found.Nothing;
-  command = Nothing;
-})
-walk_start es h = record { rest = es; holds = h; name = refl; id = refl; timeout = refl; continue = refl; expect = refl; command = refl }
 
 -- ---- at the end
 

@@ -1,10 +1,6 @@
 -- The step of a mapping: its refusals in their order, and where its parts stand. Assumes nothing.
-use mathlib.Core.Path.{◌≡◌, refl, sym, ap, ◌∙◌, subst}
-use Prim.Native.Nat.{ℕ}
-use native.Mathlib.Omega.{arith}
-use mathlib.Core.List.{List}
-use mathlib.Core.Bool.{Bool, not, true, false}
-use mathlib.Core.Option.{Option, none, some}
+use Rattle.std.proofs.Common.{◌≡◌, refl, sym, ap, ◌∙◌, subst, ℕ, arith, List, Bool, not, true, false}
+use Rattle.std.proofs.Math.Option.{Option, none, some}
 use Rattle.refusal.specs.Base.{good, refused, ◌>>=◌, ◌>>◌, ensure, one_of, bytes}
 use Rattle.item.specs.Tree.{Yaml, null, bool, int, str, seq, dict, Entries, get}
 use Rattle.item.specs.Encode.{kind_of}

@@ -1,10 +1,6 @@
 -- What is written of the parts of a step. Assumes nothing.
-use mathlib.Core.Path.{◌≡◌, refl, sym, ap, ◌∙◌}
-use Prim.Native.Nat.{ℕ, ◌-◌}
-use mathlib.Core.List.{List, append-nil}
-use mathlib.Core.Bool.{Bool}
-use mathlib.Core.Option.{Option, none, some}
-use lib.ListN.{take, drop}
+use Rattle.std.proofs.Common.{◌≡◌, refl, sym, ap, ◌∙◌, ℕ, ◌-◌, List, append-nil, Bool, take, drop}
+use Rattle.std.proofs.Math.Option.{Option, none, some}
 use Rattle.refusal.specs.Base.{maybe}
 use Rattle.item.specs.Tree.{Yaml, bool, Entries}
 use Rattle.item.specs.Encode.{item, encode}

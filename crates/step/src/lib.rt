@@ -6,7 +6,7 @@ ghost use Rattle.std.proofs.Math.Option.{Option};
 ghost use Rattle.item.specs.Tree.{Yaml, Entries, Ranged};
 ghost use Rattle.item.specs.Encode.{encode};
 ghost use Rattle.entries.specs.Entries.{Stands, Holds, Finds};
-ghost use Rattle.nodes.specs.Writing.{Goes, Writes};
+ghost use Rattle.nodes.specs.Writing.{GoesAtMost, Writes};
 ghost use Rattle.nodes.specs.Contract.{IsItem, AgreesPart};
 ghost use Rattle.meaning.specs.Meaning.{Step};
 ghost use Rattle.meaning.specs.Record.{step_item};
@@ -14,8 +14,8 @@ ghost use Rattle.meaning.specs.Meanings.{is_true, step_of, step_at};
 ghost use Rattle.step.specs.Contract.{StepStands, AgreesStep, StepPlacesInside, AgreesExpect, field_with, command_with};
 ghost use Rattle.step.specs.Contract.{FieldsInside, AgreesFields, AgreesAllowed};
 
-use entries::Pairs;
-use item::{Found, Item, Kind, header_at, same_bytes};
+use entries::Pair;
+use item::{Encoded, Found, Item, Kind, Part, header_at, same_bytes};
 use meaning::is_built_in;
 use nodes::{RecordWriter, item_found, put_found, put_optional, put_value};
 use refusal::Refusal;
@@ -74,12 +74,13 @@ fn command_with(command: Command, is_field: bool, key: usize, value: usize) -> C
     }
 }
 
-// What the entries from `from` to `to` say, in one walk. What was found so far stands in locals, since a struct handed on was slower: it is
+// What the entries of a part say, in one walk. What was found so far stands in locals, since a struct handed on was slower: it is
 // copied at each entry.
-fn fields_in(s: &[u8], from: usize, to: usize) -> StepFields
-    requires { length s.now ≤ 2 ^ 20 }
-    ensures inside { FieldsInside s.now result }
-    ensures fields { (es : Entries) → Holds s.now from to es → AgreesFields s.now es result }
+#[tactic(auto, using(entries::proofs::Walking::places_of))]
+fn fields_in(part: Part<'_>) -> StepFields
+    ensures inside { FieldsInside part.entry.bytes.now result }
+    ensures fields { (es : Entries) → Holds part.entry.bytes.now part.entry.from part.entry.to es
+        → AgreesFields part.entry.bytes.now es result }
 {
     let mut name = Found::Nothing;
     let mut id = Found::Nothing;
@@ -87,11 +88,11 @@ fn fields_in(s: &[u8], from: usize, to: usize) -> StepFields
     let mut continues = Found::Nothing;
     let mut expect = Found::Nothing;
     let mut command = Command::Nothing;
-    for pair in Pairs::within(s, from, to) {
+    for pair in part.walk::<Pair>() {
         let Ok(pair) = pair else {
             break;
         };
-        let word = &s[pair.start..pair.end];
+        let word = &part.bytes[pair.start..pair.end];
         let is_name = same_bytes(word, b"name");
         let is_id = same_bytes(word, b"id");
         let is_timeout = same_bytes(word, b"timeout");
@@ -116,9 +117,8 @@ fn fields_in(s: &[u8], from: usize, to: usize) -> StepFields
 }
 
 // Whether `expect` is absent or a mapping.
-fn expect_fits(s: &[u8], expect: Found) -> bool
-    requires { length s.now ≤ 2 ^ 20 }
-    ensures { (o : Option Yaml) → Finds s.now o expect → AgreesExpect o result }
+fn expect_fits(s: Encoded<'_>, expect: Found) -> bool
+    ensures { (o : Option Yaml) → Finds s.entry.bytes.now o expect → AgreesExpect o result }
 {
     let Some(item) = item_found(s, expect) else {
         return true;
@@ -127,29 +127,24 @@ fn expect_fits(s: &[u8], expect: Found) -> bool
 }
 
 // Whether `expect` is absent or the key from `key` to `value` is no built-in command.
-fn expect_allowed(s: &[u8], expect: Found, key: usize, value: usize) -> bool
-    requires { (key ≤ value) × (value ≤ length s.now) }
-    ensures { AgreesAllowed s.now expect key value result }
+fn expect_allowed(s: Encoded<'_>, expect: Found, key: usize, value: usize) -> bool
+    requires { (key ≤ value) × (value ≤ length s.bytes.now) }
+    ensures { AgreesAllowed s.entry.bytes.now expect key value result }
 {
     if let Found::Nothing = expect {
         return true;
     }
-    !is_built_in(&s[key..value])
+    !is_built_in(&s.bytes[key..value])
 }
 
-// The step of the entries from `from` to `to`.
-fn read_entries(
-    s: &[u8],
-    from: usize,
-    to: usize,
-    line: u32,
-    number: u32,
-) -> Result<StepPlaces, Refusal>
-    requires { length s.now ≤ 2 ^ 20 }
-    ensures inside { IfOk result (StepPlacesInside s.now) }
-    ensures step { (es : Entries) → Holds s.now from to es → AgreesStep s.now (step_of line number es) result }
+// The step of the entries of a part.
+fn read_entries(part: Part<'_>, line: u32, number: u32) -> Result<StepPlaces, Refusal>
+    ensures inside { IfOk result (StepPlacesInside part.entry.bytes.now) }
+    ensures step { (es : Entries) → Holds part.entry.bytes.now part.entry.from part.entry.to es
+        → AgreesStep part.entry.bytes.now (step_of line number es) result }
 {
-    let fields = fields_in(s, from, to);
+    let s = part.encoded();
+    let fields = fields_in(part);
     if !expect_fits(s, fields.expect) {
         return Err(Refusal::ExpectNotMapping { line, step: number });
     }
@@ -170,56 +165,53 @@ fn read_entries(
     })
 }
 
-fn read_item(s: &[u8], item: Item, line: u32, number: u32) -> Result<StepPlaces, Refusal>
-    requires { length s.now ≤ 2 ^ 20 }
-    ensures inside { IfOk result (StepPlacesInside s.now) }
-    ensures step { (y : Yaml) → Ranged y → IsItem s.now y item → AgreesStep s.now (step_at line number y) result }
+fn read_item(s: Encoded<'_>, item: Item, line: u32, number: u32) -> Result<StepPlaces, Refusal>
+    ensures inside { IfOk result (StepPlacesInside s.entry.bytes.now) }
+    ensures step { (y : Yaml) → Ranged y → IsItem s.entry.bytes.now y item → AgreesStep s.entry.bytes.now (step_at line number y) result }
 {
     let is_mapping = item.kind == Kind::Map as usize;
     if !is_mapping {
         return Err(Refusal::StepNotMapping { step: number });
     }
-    read_entries(s, item.from, item.to, line, number)
+    read_entries(s.part(item.from, item.to), line, number)
 }
 
 /// The step at the item `i`, in this line and with this number.
-pub fn read_step(s: &[u8], i: usize, line: u32, number: u32) -> Result<StepPlaces, Refusal>
-    requires { length s.now ≤ 2 ^ 20 }
-    ensures inside { IfOk result (StepPlacesInside s.now) }
-    ensures step { (y : Yaml) → Ranged y → Stands s.now i (encode y)
-        → AgreesStep s.now (step_at line number y) result }
+pub fn read_step(s: Encoded<'_>, i: usize, line: u32, number: u32) -> Result<StepPlaces, Refusal>
+    ensures inside { IfOk result (StepPlacesInside s.entry.bytes.now) }
+    ensures step { (y : Yaml) → Ranged y → Stands s.entry.bytes.now i (encode y)
+        → AgreesStep s.entry.bytes.now (step_at line number y) result }
 {
-    let Ok(item) = header_at(s, i) else {
+    let Ok(item) = header_at(s.bytes, i) else {
         return Err(Refusal::StepNotMapping { step: number });
     };
     read_item(s, item, line, number)
 }
 
 // Whether a key's value is the boolean true.
-fn is_true(s: &[u8], found: Found) -> bool
-    requires { length s.now ≤ 2 ^ 20 }
-    ensures { (o : Option Yaml) → Finds s.now o found → result ≡ is_true o }
+fn is_true(s: Encoded<'_>, found: Found) -> bool
+    ensures { (o : Option Yaml) → Finds s.entry.bytes.now o found → result ≡ is_true o }
 {
     let Some(item) = item_found(s, found) else {
         return false;
     };
     let is_bool = item.kind == Kind::Bool as usize;
     if is_bool && item.from < item.to {
-        return s[item.from] == 1;
+        return s.bytes[item.from] == 1;
     }
     false
 }
 
 // The item of the step whose parts stand at these places.
-fn put_step(s: &[u8], places: StepPlaces, writer: &mut RecordWriter<'_>)
-    requires { (length s.now ≤ 2 ^ 20) × (places.key ≤ places.value) × (places.value ≤ length s.now) }
-    ensures goes { Goes writer.old writer.new }
-    ensures step { (step : Step) → StepStands s.now step places → Writes writer.old writer.new (step_item step) }
+fn put_step(s: Encoded<'_>, places: StepPlaces, writer: &mut RecordWriter<'_>)
+    requires { (places.key ≤ places.value) × (places.value ≤ length s.bytes.now) }
+    ensures goes { GoesAtMost (2 ^ 24) writer.old writer.new }
+    ensures step { (step : Step) → StepStands s.entry.bytes.now step places → Writes writer.old writer.new (step_item step) }
 {
     let header = writer.open();
     put_found(s, places.name, writer);
     put_found(s, places.id, writer);
-    writer.text(&s[places.key..places.value]);
+    writer.text(&s.bytes[places.key..places.value]);
     put_value(s, Found::At(places.value), writer);
     put_optional(s, places.timeout, writer);
     writer.bool(is_true(s, places.continues));
@@ -229,15 +221,14 @@ fn put_step(s: &[u8], places: StepPlaces, writer: &mut RecordWriter<'_>)
 
 /// The step that an item is, in this line and with this number, written as its item.
 pub fn step_at(
-    s: &[u8],
+    s: Encoded<'_>,
     item: Item,
     line: u32,
     number: u32,
     writer: &mut RecordWriter<'_>,
 ) -> Result<(), Refusal>
-    requires { length s.now ≤ 2 ^ 20 }
-    ensures goes { Goes writer.old writer.new }
-    ensures step { (y : Yaml) → Ranged y → IsItem s.now y item
+    ensures goes { GoesAtMost (2 ^ 24) writer.old writer.new }
+    ensures step { (y : Yaml) → Ranged y → IsItem s.entry.bytes.now y item
         → AgreesPart (step_at line number y) step_item writer.old writer.new result }
 {
     let places = read_item(s, item, line, number)?;

@@ -1,11 +1,5 @@
 -- Step lines by the entries of the table. Assumes nothing.
-use mathlib.Core.Path.{◌≡◌, sym, ap, ◌∙◌}
-use Prim.Native.Nat.{ℕ, ◌+◌, ◌≤◌, ◌<◌}
-use native.Mathlib.Omega.{arith}
-use mathlib.Core.List.{List, [], ◌∷◌}
-use mathlib.Core.Bool.{true, false}
-use lib.ListN.{length, drop}
-use borrow.Author.Tests.{eq-eqb, ne_eqb, lt-ltb, le-ltb}
+use Rattle.std.proofs.Common.{◌≡◌, sym, ap, ◌∙◌, ℕ, ◌+◌, ◌≤◌, ◌<◌, arith, List, [], ◌∷◌, true, false, length, drop, eq-eqb, ne_eqb, lt-ltb, le-ltb}
 use Rattle.refusal.specs.Base.{bytes, same}
 use Rattle.lines.specs.Lines.{Line}
 use Rattle.lines.specs.Table.{line_at}
@@ -21,34 +15,34 @@ module _ (l : Line) where
   unfolding is_steps
   no_steps n = rw (ne_eqb l.indent 0 n)
 
-  pub are-steps : l.indent ≡ 0 → same l.text (bytes "steps:") ≡ is_steps l
+  pub are_steps : (t : List ℕ) → t ≡ l.text → l.indent ≡ 0 → same t (bytes "steps:") ≡ is_steps l
   unfolding is_steps
-  are-steps e = rw (eq-eqb l.indent 0 e)
+  are_steps t e z = rw (e, eq-eqb l.indent 0 z)
 
 module _ (ls : List Line) where
   -- ---- the line of the steps
 
-  pub steps-here : (i : ℕ) → i < length ls → is_steps (line_at ls i) ≡ true → behind_steps (drop i ls) ≡ drop (i + 1) ls
+  pub steps_here : (i : ℕ) → i < length ls → is_steps (line_at ls i) ≡ true → behind_steps (drop i ls) ≡ drop (i + 1) ls
   unfolding behind_steps
-  steps-here i h e = ap behind_steps (lines_next ls i h) ∙ rw e
+  steps_here i h e = ap behind_steps (lines_next ls i h) ∙ rw e
 
   pub steps_on : (i : ℕ) → i < length ls → is_steps (line_at ls i) ≡ false → behind_steps (drop i ls) ≡ behind_steps (drop (i + 1) ls)
   unfolding behind_steps
   steps_on i h e = ap behind_steps (lines_next ls i h) ∙ rw e
 
-  pub steps-none : (i : ℕ) → i ≡ length ls → behind_steps (drop i ls) ≡ drop i ls
+  pub steps_none : (i : ℕ) → i ≡ length ls → behind_steps (drop i ls) ≡ drop i ls
   unfolding behind_steps
-  steps-none i e = ap behind_steps (lines_end ls i e) ∙ sym (lines_end ls i e)
+  steps_none i e = ap behind_steps (lines_end ls i e) ∙ sym (lines_end ls i e)
 
-  pub begins-none : (d : Dashes) → d.at ≡ length ls → drop d.at ls ≡ behind_steps ls → Begins ls (length ls) d
+  pub begins_none : (d : Dashes) → d.at ≡ length ls → drop d.at ls ≡ behind_steps ls → Begins ls (length ls) d
   unfolding step_lines dashes_from dashes_at
-  begins-none d e b =
+  begins_none d e b =
       let n : drop d.at ls ≡ [] = lines_end ls d.at e in
       record { is = ap dashes_from (sym b ∙ n) ∙ sym (ap (dashes_at d.indent) n); within = omega arith }
 
-  pub begins-at : (d : Dashes) → d.at < length ls → d.indent ≡ (line_at ls d.at).indent → drop d.at ls ≡ behind_steps ls → Begins ls (length ls) d
+  pub begins_at : (d : Dashes) → d.at < length ls → d.indent ≡ (line_at ls d.at).indent → drop d.at ls ≡ behind_steps ls → Begins ls (length ls) d
   unfolding step_lines dashes_from
-  begins-at d h e b =
+  begins_at d h e b =
       let n = lines_next ls d.at h in
       record {
         is = ap dashes_from (sym b ∙ n) ∙ ap (λ (k : ℕ). dashes_at k (line_at ls d.at ∷ drop (d.at + 1) ls)) (sym e) ∙ ap (dashes_at d.indent) (sym n);
@@ -57,10 +51,10 @@ module _ (ls : List Line) where
 
   -- ---- the next dash
 
-  pub dash-on : (indent d : ℕ) → d < length ls → indent ≤ (line_at ls d).indent → is_dash indent (line_at ls d) ≡ false
+  pub dash_on : (indent d : ℕ) → d < length ls → indent ≤ (line_at ls d).indent → is_dash indent (line_at ls d) ≡ false
       → dashes_at indent (drop d ls) ≡ dashes_at indent (drop (d + 1) ls)
   unfolding dashes_at
-  dash-on indent d h k e = ap (dashes_at indent) (lines_next ls d h) ∙ rw (le-ltb (line_at ls d).indent indent k, e)
+  dash_on indent d h k e = ap (dashes_at indent) (lines_next ls d h) ∙ rw (le-ltb (line_at ls d).indent indent k, e)
 
   module _ (indent i d : ℕ) (v : dashes_at indent (drop i ls) ≡ dashes_at indent (drop d ls)) where
     none-next : dashes_at indent (drop d ls) ≡ [] → (r : StepLine) → r.line ≡ 0 → r.next ≡ length ls → Next ls (length ls) indent i r
@@ -69,13 +63,13 @@ module _ (ls : List Line) where
         let e : dashes_at indent (drop i ls) ≡ [] = v ∙ n in
         record { is = p ∙ sym (ap head_line e); others = ap (dashes_at indent) (lines_end ls r.next q) ∙ sym (ap tail_lines e); within = omega arith }
 
-    pub next-ended : d < length ls → (line_at ls d).indent < indent → (r : StepLine) → r.line ≡ 0 → r.next ≡ length ls → Next ls (length ls) indent i r
+    pub next_ended : d < length ls → (line_at ls d).indent < indent → (r : StepLine) → r.line ≡ 0 → r.next ≡ length ls → Next ls (length ls) indent i r
     unfolding dashes_at
-    next-ended h k r p q = none-next (ap (dashes_at indent) (lines_next ls d h) ∙ rw (lt-ltb (line_at ls d).indent indent k)) r p q
+    next_ended h k r p q = none-next (ap (dashes_at indent) (lines_next ls d h) ∙ rw (lt-ltb (line_at ls d).indent indent k)) r p q
 
-    pub next-none : d ≡ length ls → (r : StepLine) → r.line ≡ 0 → r.next ≡ length ls → Next ls (length ls) indent i r
+    pub next_none : d ≡ length ls → (r : StepLine) → r.line ≡ 0 → r.next ≡ length ls → Next ls (length ls) indent i r
     unfolding dashes_at
-    next-none e r p q = none-next (ap (dashes_at indent) (lines_end ls d e)) r p q
+    next_none e r p q = none-next (ap (dashes_at indent) (lines_end ls d e)) r p q
 
     pub next_here : d < length ls → indent ≤ (line_at ls d).indent → is_dash indent (line_at ls d) ≡ true
         → (r : StepLine) → r.line ≡ (line_at ls d).number → r.next ≡ d + 1 → Next ls (length ls) indent i r
@@ -84,3 +78,6 @@ module _ (ls : List Line) where
         let w : dashes_at indent (drop i ls) ≡ (line_at ls d).number ∷ dashes_at indent (drop (d + 1) ls) =
         v ∙ ap (dashes_at indent) (lines_next ls d h) ∙ rw (le-ltb (line_at ls d).indent indent k, e) in
         record { is = p ∙ sym (ap head_line w); others = ap (λ (n : ℕ). dashes_at indent (drop n ls)) q ∙ sym (ap tail_lines w); within = omega arith }
+
+-- what the search tries in the walk to the line of the steps
+pub ruleset behind = (steps_here, steps_on, steps_none)

@@ -24,7 +24,7 @@ pub struct StepLine {
 }
 
 // Whether a line is exactly `steps:` at indentation 0.
-#[tactic(auto, unfolding(crate::specs::StepLines::is_steps))]
+#[tactic(auto, using(crate::proofs::Laws::are_steps), unfolding(crate::specs::StepLines::is_steps, refusal::specs::Base::bytes))]
 fn is_steps(lines: &Lines<'_>, i: usize) -> bool
     requires { i < length lines.now }
     ensures { result ≡ is_steps (line_at lines.now i) }
@@ -33,6 +33,7 @@ fn is_steps(lines: &Lines<'_>, i: usize) -> bool
 }
 
 // The line behind the first that is.
+#[tactic(auto, using(crate::proofs::Laws::behind))]
 fn behind_steps(lines: &Lines<'_>) -> usize
     ensures { (drop result lines.now ≡ behind_steps lines.now) × (result ≤ length lines.now) }
 {
@@ -60,6 +61,7 @@ pub fn first_dash(lines: &Lines<'_>) -> Dashes
 }
 
 /// The line of the next dash from line `i` on; 0 where none comes before a line less indented.
+#[tactic(auto, using(crate::proofs::Laws::dash_on))]
 pub fn next_dash(lines: &Lines<'_>, i: usize, indent: usize) -> StepLine
     requires { i ≤ length lines.now }
     ensures { Next lines.now (length lines.now) indent i result }

@@ -1,12 +1,7 @@
 -- The walk along the defaults, and their item. Assumes nothing.
 use Rattle.std.specs.Prelude.{if◌then◌else◌, Option as Maybe, Some, None}
-use mathlib.Core.Path.{◌≡◌, refl, sym, ap, ◌∙◌, subst}
-use Prim.Native.Nat.{ℕ, ◌-◌, ◌≤◌, ◌<◌}
-use native.Mathlib.Omega.{arith}
-use mathlib.Core.List.{List, append-nil}
-use mathlib.Core.Bool.{Bool, true, false}
-use mathlib.Core.Option.{Option, none, some}
-use lib.ListN.{take, drop}
+use Rattle.std.proofs.Common.{◌≡◌, refl, sym, ap, ◌∙◌, subst, ℕ, ◌-◌, ◌≤◌, ◌<◌, arith, List, append-nil, Bool, true, false, take, drop}
+use Rattle.std.proofs.Math.Option.{Option, none, some}
 use Rattle.refusal.specs.Base.{Answer, good, refused, ◌>>=◌, maybe, bytes, same}
 use Rattle.item.specs.Tree.{Yaml, null, bool, int, str, seq, dict, Entries, pair}
 use Rattle.item.specs.Encode.{encode, kind_of}

@@ -1,10 +1,6 @@
 -- The walk along the top keys. Assumes nothing.
 use Rattle.std.specs.Prelude.{if◌then◌else◌}
-use mathlib.Core.Path.{◌≡◌, refl, sym, ap, ◌∙◌}
-use Prim.Native.Nat.{ℕ, ◌-◌, ◌≤◌}
-use mathlib.Core.List.{List}
-use mathlib.Core.Bool.{Bool, true, false}
-use lib.ListN.{take, drop}
+use Rattle.std.proofs.Common.{◌≡◌, sym, ap, ◌∙◌, ℕ, ◌-◌, ◌≤◌, List, Bool, true, false, take, drop}
 use Rattle.refusal.specs.Base.{one_of}
 use Rattle.item.specs.Tree.{Entries}
 use Rattle.entries.specs.Entries.{Lies}
@@ -18,9 +14,6 @@ pub record KnownRest (s : List ℕ) (to at : ℕ) (es : Entries) : Type 0 where
   pub rest : Entries
   pub lies : Lies s at to rest
   pub is : known_keys es ≡ known_keys rest
-
-pub known_start : {s : List ℕ} {to at : ℕ} (es : Entries) → Lies s at to es → KnownRest s to at es
-known_start es h = record { rest = es; lies = h; is = refl }
 
 module _ {s : List ℕ} {to at : ℕ} {p : Pair} {es : Entries} (k : KnownRest s to at es) (t : Turn s at to k.rest p) where
   here : {b : Bool} → b ≡ one_of (take (p.end - p.start) (drop p.start s)) top_keys → known_keys es ≡ (if b then known_keys t.entry.others else refuse 22)

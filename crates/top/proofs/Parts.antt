@@ -2,12 +2,9 @@
 use Rattle.std.specs.Prelude.{Option as Maybe, Some, None, Result, Err}
 use Rattle.std.specs.Option.{ok_or}
 use Rattle.refusal.specs.declared.Refusal.{Refusal}
-use mathlib.Core.Path.{◌≡◌, refl, sym, ap, ◌∙◌}
-use Prim.Native.Nat.{ℕ, ◌-◌}
-use native.Mathlib.Omega.{arith}
-use mathlib.Core.List.{List, append-nil}
-use mathlib.Core.Bool.{true, false}
-use mathlib.Core.Option.{Option, none, some}
+use Rattle.std.proofs.Common.{◌≡◌, refl, sym, ap, ◌∙◌, ℕ, ◌+◌, ◌-◌, ◌≤◌, ◌^◌, length, drop, arith, List, append-nil, true, false}
+use Rattle.std.proofs.Math.Option.{Option, none, some}
+use Rattle.std.proofs.lemmas.List.{length-take}
 use Rattle.refusal.specs.Base.{good, refused, ◌>>=◌, ◌>>◌, maybe, given, ensure, bytes, same}
 use Rattle.utf8.specs.Part.{part}
 use Rattle.item.specs.Tree.{Yaml, null, bool, int, str, seq, dict, Items, Entries, get, Ranged}
@@ -18,9 +15,9 @@ use Rattle.entries.specs.Entries.{Stands, Holds, Finds}
 use Rattle.entries.proofs.Standing.{stands-part}
 use Rattle.entries.proofs.Values.{Mapped, entries-of}
 use Rattle.nodes.specs.declared.output.RecordWriter.{RecordWriter}
-use Rattle.nodes.specs.Writing.{Writes}
+use Rattle.nodes.specs.Writing.{GoesAtMost, Writes}
 use Rattle.nodes.specs.Contract.{or_null, scalar_text, text_or_empty}
-use Rattle.nodes.proofs.Writing.{writes_is, writes_more}
+use Rattle.nodes.proofs.Writing.{writes_is, writes_more, item_most}
 use Rattle.meaning.specs.Meaning.{Defaults}
 use Rattle.meaning.specs.Record.{joined, text_item, tags_item, defaults_item, fields}
 use Rattle.meaning.specs.Meanings.{schema, refuse, document, scalar_at, or_empty, check_schema, sequence_or, texts_of, defaults_of, Top, top_of, with_steps}
@@ -112,10 +109,10 @@ module _ {y : Yaml} {es : Entries} (p : Passed y es) where
           unfolding top_of ◌>>=◌ ◌>>◌ scalar_at given
           top-31 h = rw (p.document_is, p.known, p.schema_is, ← n, t, f, d, h)
 
-  module _ {s : List ℕ} (r : TopPlaces) {name : List ℕ} (n : some name ≡ scalar_text (get (bytes "name") es)) (t : IsSequence s (get (bytes "tags") es) r.tags)
-      (f : IsSequence s (get (bytes "fail_on") es) r.fail_on)
+  module _ {s : List ℕ} (r : TopPlaces) {name : List ℕ} (n : some name ≡ scalar_text (get (bytes "name") es)) (t : IsSequence (get (bytes "tags") es) r.tags)
+      (f : IsSequence (get (bytes "fail_on") es) r.fail_on)
       (d : IsDefaults s (defaults_of (get (bytes "defaults") es)) r.defaults) where
-    pub top_read : Finds s (get (bytes "name") es) r.name → Finds s (get (bytes "description") es) r.description → Finds s (get (bytes "image") es) r.image → Finds s (get (bytes "setup") es) r.setup → IsSequence s (get (bytes "steps") es) r.steps → ReadsTop s (top_of y) r
+    pub top_read : Finds s (get (bytes "name") es) r.name → Finds s (get (bytes "description") es) r.description → Finds s (get (bytes "image") es) r.image → Finds s (get (bytes "setup") es) r.setup → IsSequence (get (bytes "steps") es) r.steps → ReadsTop s (top_of y) r
     unfolding top_of ◌>>=◌ ◌>>◌ scalar_at given or_empty maybe
     top_read found_name description image setup steps = record {
       top = record {
@@ -146,6 +143,9 @@ module _ {y : Yaml} {es : Entries} (p : Passed y es) where
 pub sequence-written : {s : List ℕ} {from to : ℕ} {a b : RecordWriter} (ys : Items) → Holds s from to ys → Writes a b (item 4 (part s from to)) → Writes a b (encode (seq ys))
 unfolding encode
 sequence-written {s} {from} {to} ys h w = writes_is (ap (item 4) (stands-part h.lies.stands (to - from) (omega (arith, h.lies.ends)))) w
+
+pub sequence-most : (s : List ℕ) {from to : ℕ} {a b : RecordWriter} → (from ≤ to) × (to ≤ length s) × (length s ≤ 2 ^ 20) → Writes a b (item 4 (part s from to)) → GoesAtMost (6 + 2 ^ 20) a b
+sequence-most s {from} {to} i w = item_most (6 + 2 ^ 20) 4 (part s from to) w (omega (arith, i, length-take (to - from) (drop from s)))
 
 pub fields-written : {o a b c d e f g : RecordWriter} (t : Top) → Writes o a (text_item t.name) → Writes a b (text_item t.description) → Writes b c (tags_item t.tags)
     → Writes c d (text_item t.image) → Writes d e (encode t.setup) → Writes e f (defaults_item t.defaults) → Writes f g (encode (seq t.fail_on))

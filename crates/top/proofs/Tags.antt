@@ -1,8 +1,6 @@
 -- The walk along the tags. Assumes nothing.
-use mathlib.Core.Path.{◌≡◌, refl, sym, ap, ◌∙◌}
-use Prim.Native.Nat.{ℕ, ◌≤◌, ◌-◌, ◌^◌}
-use mathlib.Core.List.{List, [], ◌++◌, map, append_assoc, append-nil}
-use mathlib.Core.Option.{none, some}
+use Rattle.std.proofs.Common.{◌≡◌, refl, sym, ap, ◌∙◌, ℕ, ◌≤◌, List, ◌++◌, map, append_assoc, append-nil}
+use Rattle.std.proofs.Math.Option.{none, some}
 use Rattle.item.specs.Tree.{Yaml, Items, ◌▸◌}
 use Rattle.item.specs.Encode.{item, encode}
 use Rattle.item.specs.declared.Item.{Item}
@@ -12,7 +10,7 @@ use Rattle.entries.proofs.Walking.{no-more-items}
 use Rattle.nodes.specs.declared.output.RecordWriter.{RecordWriter}
 use Rattle.nodes.specs.Writing.{Writes, Opens, Closes}
 use Rattle.nodes.proofs.Items.{ItemTurn}
-use Rattle.nodes.proofs.Writing.{writes_is, writes_more, writes_none, writes_item}
+use Rattle.nodes.proofs.Writing.{writes_is, writes_more, writes_item}
 use Rattle.meaning.specs.Record.{joined, text_item, tags_item}
 use Rattle.meaning.specs.Meanings.{cons_text, texts_of}
 
@@ -26,9 +24,6 @@ pub record TagsRest (s : List ℕ) (to at : ℕ) (ys : Items) (old new : RecordW
   pub holds : Holds s at to rest
   pub is : tags_of ys ≡ front ++ tags_of rest
   pub writes : Writes old new front
-
-pub tags-start : {s : List ℕ} {to at : ℕ} {w : RecordWriter} (ys : Items) → Holds s at to ys → w.end ≤ 2 ^ 64 - 1 → TagsRest s to at ys w w
-tags-start ys h e = record { rest = ys; front = []; holds = h; is = refl; writes = writes_none e }
 
 with-tag : (y : Yaml) (ys : Items) (t : List ℕ) → some t ≡ scalar.key_text y → tags_of (y ▸ ys) ≡ item 3 t ++ tags_of ys
 unfolding texts_of cons_text joined text_item encode

@@ -1,28 +1,22 @@
 -- One value by its kind: the schema, sequences. A key that is absent is read as null. Assumes nothing.
 use Rattle.std.specs.Prelude.{if◌then◌else◌}
-use mathlib.Core.Path.{◌≡◌, refl, sym, ap, ◌∙◌}
-use Prim.Native.Nat.{ℕ, zero, suc, ◌+◌, ◌/◌, ◌%◌, ◌<◌}
-use native.Mathlib.Omega.{arith}
-use mathlib.Core.List.{List, [], ◌∷◌, ◌++◌}
-use mathlib.Core.Bool as flags
-use mathlib.Core.Bool.{true, false}
-use mathlib.Core.Option.{Option, none, some}
-use lib.Dec.{ltb}
-use lib.IntN.{ℤ, pos, negsuc}
-use lib.ListN.{length}
-use borrow.Author.Tests.{ne_eqb, ltb-true}
+use Rattle.std.proofs.Common.{Bor, ◌≡◌, refl, sym, ap, ◌∙◌, ℕ, zero, suc, ◌+◌, ◌/◌, ◌%◌, ◌≤◌, ◌<◌, arith, List, [], ◌∷◌, ◌++◌, true, false, ltb, ℤ, pos, negsuc, length}
+use Rattle.std.proofs.Math.Option.{Option, none, some}
+use Rattle.std.proofs.lemmas.Bool.{ne_eqb, ltb-true}
+use Rattle.std.specs.Prelude as flags
 use Rattle.refusal.specs.Base.{good, refused, maybe, bytes, same}
 use Rattle.item.specs.Tree.{Yaml, null, bool, int, str, seq, dict, end}
 use Rattle.item.specs.Encode.{encode, kind_of, signed}
 use Rattle.item.specs.declared.Item.{Item}
+use Rattle.item.specs.declared.encoded.Part.{Part}
 use Rattle.number.specs.Integers.{decimal_of, int_text}
 use Rattle.scalar.specs.Scalars.{bool_text}
-use Rattle.std.proofs.Common.{Bor}
 use Rattle.entries.specs.Entries.{Stands, Holds, content}
 use Rattle.nodes.specs.declared.Scalar.{Scalar}
 use Rattle.nodes.specs.declared.Scalar.TheVariants.{Bool, Int, Str}
 use Rattle.nodes.specs.Contract.{FoundItem, or_null, text_of}
 use Rattle.entries.proofs.Values.{items_of}
+use Rattle.nodes.proofs.Items.{part_holds}
 use Rattle.meaning.specs.Meanings.{schema, sequence_or}
 use Rattle.top.specs.Contract.{IsValue, IsSequence}
 
@@ -102,17 +96,18 @@ no_items (str t) n a b = refl
 no_items (seq ys) n a b = absurd (b refl)
 no_items (dict es) n a b = refl
 
-module _ {s : List ℕ} {v : Item} (o : Option Yaml) (i : IsValue s (or_null o) v) where
-  pub sequence-empty : v.kind ≡ 0 → IsSequence s o (record { from = v.from; to = v.to })
+module _ {bytes : Bor (List ℕ)} {v : Item} {part : Part} (o : Option Yaml) (i : IsValue bytes.now (or_null o) v) (b : part.bytes ≡ bytes)
+    (places : v.from ≤ v.to → v.to ≤ length bytes.now → (part.from ≡ v.from) × (part.to ≡ v.to)) where
+  pub sequence-empty : v.kind ≡ 0 → IsSequence o part
   sequence-empty k =
       let e = null-items (or_null o) (sym i.item_is.kind_is ∙ k) i.item_is.stands i.item_is.ends in
-      record { items = end; is = λ n. sequence-null n o ∙ e.0 n; holds = e.1 }
+      record { items = end; is = λ n. sequence-null n o ∙ e.0 n; holds = part_holds b places e.1 }
 
-  pub sequence-there : v.kind ≡ 4 → IsSequence s o (record { from = v.from; to = v.to })
+  pub sequence-there : v.kind ≡ 4 → IsSequence o part
   unfolding sequence_or
   sequence-there k =
       let l = items_of (or_null o) i.ranged i.item_is.stands i.item_is.ends (sym i.item_is.kind_is ∙ k) in
-      record { items = l.items; is = λ n. sequence-null n o ∙ ap (λ (y : Yaml). sequence_or n (some y)) l.is; holds = l.holds }
+      record { items = l.items; is = λ n. sequence-null n o ∙ ap (λ (y : Yaml). sequence_or n (some y)) l.is; holds = part_holds b places l.holds }
 
-  pub sequence-other : (v.kind ≡ 0 → ⊥) → (v.kind ≡ 4 → ⊥) → (n : ℕ) → sequence_or n o ≡ refused n 0 0
-  sequence-other a b n = sequence-null n o ∙ no_items (or_null o) n (λ e. a (i.item_is.kind_is ∙ e)) (λ e. b (i.item_is.kind_is ∙ e))
+pub sequence-other : {s : List ℕ} {v : Item} (o : Option Yaml) → IsValue s (or_null o) v → (v.kind ≡ 0 → ⊥) → (v.kind ≡ 4 → ⊥) → (n : ℕ) → sequence_or n o ≡ refused n 0 0
+sequence-other o i a b n = sequence-null n o ∙ no_items (or_null o) n (λ e. a (i.item_is.kind_is ∙ e)) (λ e. b (i.item_is.kind_is ∙ e))

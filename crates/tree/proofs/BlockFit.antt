@@ -1,12 +1,7 @@
 -- A block that is read with `l` levels left fits `l` levels. Assumes nothing.
-use mathlib.Core.Path.{◌≡◌, refl, sym, ◌∙◌, subst}
-use Prim.Native.Nat.{ℕ, zero, suc, ◌≤◌, ◌<◌}
-use native.Mathlib.Omega.{arith}
-use mathlib.Core.List.{List, [], ◌∷◌}
-use mathlib.Core.Bool.{Bool, true, false, ◌&&◌, not, false≢true}
-use mathlib.Core.Option.{Option, none, some, some-injective, none-ne-some}
-use lib.Dec.{eqb, ltb}
-use lib.ListN.{length, take, drop}
+use Rattle.std.proofs.Common.{◌≡◌, refl, sym, ◌∙◌, subst, ℕ, zero, suc, ◌≤◌, ◌<◌, arith, List, [], ◌∷◌, Bool, true, false, ◌&&◌, not, eqb, ltb, length, take, drop}
+use Rattle.std.proofs.lemmas.Bool.{false≢true}
+use Rattle.std.proofs.Math.Option.{Option, none, some, some-injective, none-ne-some}
 use Rattle.refusal.specs.Base.{good, ◌>>=◌, ensure, given, bytes, same, empty, ch}
 use Rattle.refusal.proofs.Tools.{good-inj, bound, bound', chosen, present, gave}
 use Rattle.utf8.proofs.Ranges.{if-both, if-one}

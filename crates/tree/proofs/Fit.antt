@@ -1,14 +1,7 @@
 -- What is known of a tree that is read: its levels, its keys, its strings, its integers; as it grows. Assumes nothing.
-use mathlib.Core.Path.{◌≡◌, refl}
-use Prim.Native.Nat.{ℕ, suc, ◌+◌, ◌≤◌, ◌<◌, ◌^◌}
-use native.Mathlib.Omega.{arith}
-use mathlib.Core.List.{List}
-use mathlib.Core.Bool.{Bool, true, false, not}
-use mathlib.Core.Option.{Option, none, some}
-use lib.Dec.{leb}
-use lib.IntN.{ℤ}
-use lib.Signed.{mag}
-use borrow.Author.Tests.{leb-true}
+use Rattle.std.proofs.Common.{◌≡◌, refl, ℕ, suc, ◌+◌, ◌≤◌, ◌<◌, ◌^◌, arith, List, Bool, true, false, not, leb, ℤ, leb-true}
+use Rattle.std.proofs.Math.Option.{Option, none, some}
+use Rattle.std.specs.Int.Signed.{mag}
 use Rattle.refusal.specs.Base.{Answer, good, ◌>>=◌, ◌>>◌, ensure, one_of}
 use Rattle.refusal.proofs.Tools.{good-inj, refused≢good, chosen}
 use Rattle.item.specs.Tree.{Shape, Node, Yaml, null, bool, int, str, seq, dict, Items, end, ◌◂◌, Entries, done, pair, add, levels, has_key, Ranged}

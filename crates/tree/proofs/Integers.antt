@@ -1,13 +1,7 @@
 -- The integers of a text have 64 bits, and so those of a collection as it grows. Assumes nothing.
-use mathlib.Core.Path.{◌≡◌}
-use Prim.Native.Nat.{ℕ, zero, suc, ◌≤◌, ◌<◌, ◌^◌}
-use native.Mathlib.Omega.{arith}
-use mathlib.Core.List.{List, [], ◌∷◌}
-use mathlib.Core.Option.{Option, none, some, some-injective, none-ne-some}
-use lib.Dec.{leb, ltb, eqb}
-use lib.IntN.{ℤ, pos, neg_ℤ}
-use lib.Signed.{mag}
-use borrow.Author.Tests.{leb-true, ltb-true}
+use Rattle.std.proofs.Common.{◌≡◌, ℕ, zero, suc, ◌≤◌, ◌<◌, ◌^◌, arith, List, [], ◌∷◌, leb, ltb, eqb, ℤ, pos, neg_ℤ, leb-true, ltb-true}
+use Rattle.std.proofs.Math.Option.{Option, none, some, some-injective, none-ne-some}
+use Rattle.std.specs.Int.Signed.{mag}
 use Rattle.refusal.specs.Base.{ch}
 use Rattle.refusal.proofs.Tools.{chosen}
 use Rattle.item.specs.Tree.{Yaml, Items, end, ◌▸◌, ◌◂◌, Entries, done, pair, add, Ranged}

@@ -1,8 +1,5 @@
 -- How deep sequences and mappings nest as they grow. Assumes nothing.
-use mathlib.Core.Path.{◌≡◌}
-use Prim.Native.Nat.{ℕ, max}
-use native.Mathlib.Omega.{arith}
-use mathlib.Core.List.{List}
+use Rattle.std.proofs.Common.{◌≡◌, ℕ, max, arith, List}
 use Rattle.item.specs.Tree.{Yaml, Items, end, ◌▸◌, ◌◂◌, Entries, done, pair, add, levels}
 
 pub levels-snoc : (ys : Items) (y : Yaml) → levels (ys ◂ y) ≡ max (levels ys) (levels y)

@@ -1,10 +1,5 @@
 -- What follows from the contract of `read_tree` for whoever calls it. Assumes nothing.
-use mathlib.Core.Path.{◌≡◌, refl, sym, ap, ◌∙◌}
-use Prim.Native.Nat.{ℕ, ◌≤◌, min, ◌^◌}
-use native.Mathlib.Omega.{arith}
-use mathlib.Core.List.{List, ◌++◌}
-use lib.ListN.{length, take, drop}
-use lib.Seq.{take_at, drop_at}
+use Rattle.std.proofs.Common.{◌≡◌, refl, sym, ap, ◌∙◌, ℕ, ◌≤◌, min, ◌^◌, arith, List, ◌++◌, length, take, drop, take_at, drop_at}
 use Rattle.refusal.specs.Base.{Answer, good, refused}
 use Rattle.refusal.proofs.Tools.{good-inj, refused≢good}
 use Rattle.item.specs.Tree.{Yaml}

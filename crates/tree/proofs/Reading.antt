@@ -1,12 +1,8 @@
 -- What each step of reading a tree comes to. Assumes nothing.
-use mathlib.Core.Path.{◌≡◌, sym, ap, ◌∙◌}
-use Prim.Native.Nat.{ℕ, ◌+◌, ◌≤◌, ◌<◌, min, ◌^◌}
-use native.Mathlib.Omega.{arith}
-use mathlib.Core.List.{List, [], ◌∷◌, ◌++◌, append_assoc}
-use mathlib.Core.Bool.{true, false}
-use lib.ListN.{length, take, drop, replicate, length-append, length-drop, take-append-drop}
-use lib.Seq.{sets, sets-eq, length-take-le, drop-append-le}
-use borrow.Author.Tests.{le-leb, lt-leb}
+use Rattle.std.proofs.Common.{◌≡◌, sym, ap, ◌∙◌, ℕ, ◌+◌, ◌≤◌, ◌<◌, min, ◌^◌, arith, List, [], ◌∷◌, ◌++◌, append_assoc, true, false, length, take, drop, replicate, length-append, length-drop, take-append-drop, length-take-le, le-leb}
+use Rattle.std.proofs.lemmas.List.Edits.{sets, sets-eq}
+use Rattle.std.proofs.lemmas.List.{drop-append-le}
+use Rattle.std.proofs.lemmas.Bool.{lt-leb}
 use Rattle.refusal.specs.Base.{Answer, good, refused, ◌>>=◌, ◌>>◌, ensure}
 use Rattle.refusal.specs.Told.{refusal}
 use Rattle.refusal.specs.declared.Refusal.{Refusal}
@@ -54,14 +50,14 @@ module _ (ls : List Line) (old : List ℕ) where
 -- ---- the text
 
 module _ (work : ℕ) (text : List ℕ) where
-  pub tree-long : 65535 < length text → tree work text ≡ refused 1 0 0
+  pub tree_long : 65535 < length text → tree work text ≡ refused 1 0 0
   unfolding tree admitted ◌>>=◌ ◌>>◌ ensure
-  tree-long h = rw (lt-leb (length text) 65535 h)
+  tree_long h = rw (lt-leb (length text) 65535 h)
 
   module _ (h : length text ≤ 65535) where
-    pub tree-bytes : is_utf8 text ≡ false → tree work text ≡ refused 2 0 0
+    pub tree_bytes : is_utf8 text ≡ false → tree work text ≡ refused 2 0 0
     unfolding tree admitted ◌>>=◌ ◌>>◌ ensure
-    tree-bytes u = rw (le-leb (length text) 65535 h, u)
+    tree_bytes u = rw (le-leb (length text) 65535 h, u)
 
     module _ (u : is_utf8 text ≡ true) where
       pub tree-unlined : (z : Refusal) → significant_lines text ≡ refusal z → tree work text ≡ refusal z

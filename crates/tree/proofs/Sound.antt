@@ -1,10 +1,5 @@
 -- What holds of every tree that is read from a text. Assumes nothing.
-use mathlib.Core.Path.{◌≡◌}
-use Prim.Native.Nat.{ℕ, ◌≤◌, min, ◌^◌}
-use native.Mathlib.Omega.{arith}
-use mathlib.Core.List.{List}
-use lib.Dec.{leb}
-use lib.ListN.{length}
+use Rattle.std.proofs.Common.{◌≡◌, ℕ, ◌≤◌, min, ◌^◌, arith, List, leb, length}
 use Rattle.refusal.specs.Base.{good, ◌>>◌, ensure}
 use Rattle.refusal.proofs.Tools.{ensured, good-inj, bound, bound'}
 use Rattle.utf8.specs.Utf8.{is_utf8, Utf8}

@@ -1,13 +1,5 @@
 -- Trees whose strings and keys are UTF-8, and scalars as texts. Assumes nothing.
-use Rattle.std.specs.Prelude.{if◌then◌else◌}
-use mathlib.Core.Path.{◌≡◌, refl, sym, ◌∙◌}
-use Prim.Native.Nat.{ℕ, zero, suc, ◌+◌, ◌/◌, ◌%◌, ◌<◌}
-use native.Mathlib.Omega.{arith}
-use mathlib.Core.List.{List, [], ◌∷◌, ◌++◌}
-use mathlib.Core.Bool.{Bool, true, false}
-use lib.Dec.{ltb}
-use lib.IntN.{ℤ, pos, negsuc}
-use borrow.Author.Tests.{ltb-true}
+use Rattle.std.proofs.Common.{if◌then◌else◌, ◌≡◌, refl, sym, ◌∙◌, ℕ, zero, suc, ◌+◌, ◌/◌, ◌%◌, ◌<◌, arith, List, [], ◌∷◌, ◌++◌, Bool, true, false, ltb, ℤ, pos, negsuc, ltb-true}
 use Rattle.refusal.specs.Base.{good, given, ch, bytes}
 use Rattle.refusal.proofs.Tools.{good-inj, refused≢good}
 use Rattle.utf8.specs.Utf8.{Utf8}

@@ -1,12 +1,6 @@
 -- The running sum behind a block is the length of what it is written as. Assumes nothing.
-use mathlib.Core.Path.{◌≡◌, refl, ap, ◌∙◌, subst}
-use Prim.Native.Nat.{ℕ, zero, suc, ◌+◌}
-use native.Mathlib.Omega.{arith}
-use mathlib.Core.List.{List, [], ◌∷◌}
-use mathlib.Core.Bool.{Bool, ◌&&◌, not}
-use mathlib.Core.Option.{Option, none, some, some-injective, none-ne-some}
-use lib.Dec.{eqb, ltb}
-use lib.ListN.{length, take, drop}
+use Rattle.std.proofs.Common.{◌≡◌, refl, ap, ◌∙◌, subst, ℕ, zero, suc, ◌+◌, arith, List, [], ◌∷◌, Bool, ◌&&◌, not, eqb, ltb, length, take, drop}
+use Rattle.std.proofs.Math.Option.{Option, none, some, some-injective, none-ne-some}
 use Rattle.refusal.specs.Base.{good, ensure, given, bytes, same, empty}
 use Rattle.refusal.proofs.Tools.{good-inj, bound, bound', chosen, present, gave}
 use Rattle.utf8.specs.White.{trim, trim_start}

@@ -53,6 +53,7 @@ fn tree_of(lines: &Lines<'_>, out: &mut [u8]) -> Result<usize, Refusal>
 }
 
 /// The tree of a text, written from the front of `out`, and the rows of its lines. Of a refusal anything is left in both.
+#[tactic(auto, using(crate::proofs::Reading::tree_long, crate::proofs::Reading::tree_bytes))]
 pub fn read_with(
     text: &[u8],
     rows: &mut [Row; MOST_LINES],

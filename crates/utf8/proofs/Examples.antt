@@ -1,9 +1,6 @@
 -- The definitions at worked examples, each computed: document 01's white space is white space in UTF-8, with its length, and its
 -- neighbours are none; texts that RFC 3629 takes or refuses; texts trimmed. Assumes nothing.
-use mathlib.Core.Path.{◌≡◌, refl}
-use mathlib.Core.List.{[], ◌∷◌, map}
-use mathlib.Core.Bool.{true, false}
-use Prim.Native.Nat.{ℕ}
+use Rattle.std.proofs.Common.{◌≡◌, refl, [], ◌∷◌, map, true, false, ℕ}
 use Rattle.refusal.proofs.Open.{Base-open}
 use Rattle.utf8.specs.Utf8.{is_utf8}
 use Rattle.utf8.proofs.Open.{Utf8-open, Points-open, White-open}

@@ -1,16 +1,9 @@
 -- Laws of parts and of white space, for proofs of code that trims. They hold of every list of bytes. Assumes nothing.
 use Rattle.std.specs.Prelude.{if◌then◌else◌}
-use mathlib.Core.Path.{◌≡◌, refl, sym, ap, ◌∙◌}
-use mathlib.Core.List.{List, [], ◌∷◌, ◌++◌}
-use mathlib.Core.Bool.{Bool, true, false, ◌&&◌, false≢true}
-use mathlib.Core.Option.{Option, none, some}
-use Prim.Native.Nat.{ℕ, zero, suc, ◌+◌, ◌-◌, ◌≤◌, ◌<◌}
-use native.Mathlib.Numerals.{add-one}
-use native.Mathlib.Omega.{arith}
-use lib.Dec.{eqb, leb, ltb}
-use lib.ListN.{length, get_or, take, drop, length-drop}
-use lib.Seq.{take-nil, take-length, drop-length, take-take, take-add, drop-cons, drop-drop, length-take-le, get_or-take, get_or-drop}
-use borrow.Author.Tests.{ltb-true, ltb-false, ne_eqb, leb-true, leb-false}
+use Rattle.std.proofs.Common.{◌≡◌, refl, sym, ap, ◌∙◌, List, [], ◌∷◌, ◌++◌, Bool, true, false, ◌&&◌, ℕ, zero, suc, ◌+◌, ◌-◌, ◌≤◌, ◌<◌, add-one, arith, eqb, leb, ltb, length, get_or, take, drop, length-drop, take-take, take-add, drop-cons, drop-drop, length-take-le, get_or-take, get_or-drop, ltb-true, ltb-false, ne_eqb, leb-true, leb-false}
+use Rattle.std.proofs.Math.Bool.{false≢true}
+use Rattle.std.proofs.Math.Option.{Option, none, some}
+use Rattle.std.proofs.Math.Seq.{take-nil, take-length, drop-length}
 use Rattle.refusal.specs.Base.{maybe, empty}
 use Rattle.utf8.specs.Utf8.{Range, ◌‥◌, within}
 use Rattle.utf8.proofs.Ranges.{and-false, below, above}
@@ -49,11 +42,6 @@ module _ (s : List ℕ) where
 
   pub part-take : (a e k : ℕ) → a + k ≤ e → take k (part s a e) ≡ part s a (a + k)
   part-take a e k h = let z : a + k - a ≡ k = omega arith in rw z (take-take k (e - a) (drop a s) (omega arith))
-
-  pub part-part : (a e i j : ℕ) → a + j ≤ e → part (part s a e) i j ≡ part s (a + i) (a + j)
-  part-part a e i j h =
-      let z : a + j - (a + i) ≡ j - i = omega arith in
-      ap (take (j - i)) (part-drop a e i) ∙ take-take (j - i) (e - (a + i)) (drop (a + i) s) (omega arith) ∙ rw z
 
   pub part-append : (a m e : ℕ) → a ≤ m → m ≤ e → part s a e ≡ part s a m ++ part s m e
   part-append a m e h k =
@@ -107,15 +95,6 @@ white-most (a ∷ b ∷ c ∷ s) = go (white1 a) (white2 a b) (white3 a b c)
     go false true z = omega arith
     go false false true = omega arith
     go false false false = omega arith
-
-pub white-le : (s : List ℕ) → white_len s ≤ length s
-unfolding white_len maybe
-white-le [] = omega arith
-white-le (b ∷ s) = go (white_at b s) refl
-  where
-    go : (o : Option ℕ) → white_at b s ≡ o → maybe o 0 suc ≤ suc (length s)
-    go none e = omega arith
-    go (some k) e = omega (arith, white-fits b s k e)
 
 from-add : (k : ℕ) (s : List ℕ) → k ≤ length s → leading_from k s ≡ k + leading (drop k s)
 unfolding leading leading_from

@@ -9,3 +9,4 @@ pub mod Utf8Laws
 pub mod Utf8Points
 pub mod WhitePoints
 pub mod Open
+pub mod Places

@@ -1,9 +1,7 @@
 -- Whether a number lies in a range, by its place; and laws of tests. Assumes nothing.
-use mathlib.Core.Path.{◌≡◌, refl, sym}
-use mathlib.Core.Bool.{Bool, true, false, ◌&&◌, ◌||◌, false≢true}
-use Prim.Native.Nat.{ℕ, ◌≤◌, ◌<◌}
-use lib.Dec.{leb}
-use borrow.Author.Tests.{leb-true, le-leb, lt-leb}
+use Rattle.std.proofs.Common.{◌≡◌, refl, sym, Bool, true, false, ◌&&◌, ◌||◌, ℕ, ◌≤◌, ◌<◌, leb, leb-true, le-leb}
+use Rattle.std.proofs.Math.Bool.{false≢true}
+use Rattle.std.proofs.lemmas.Bool.{lt-leb}
 use Rattle.utf8.specs.Utf8.{Range, within}
 
 pub and-false : (a : Bool) → a && false ≡ false

@@ -1,12 +1,12 @@
 -- What a byte leads to, as the code goes over a text: a first byte by its row of the table, one behind it by the range that is due. Assumes nothing.
 use Rattle.std.proofs.Common.{◌≡◌, ℕ, zero, suc, ◌-◌, ◌≤◌, ◌<◌, List, [], ◌∷◌, true, false, length, drop, replicate, eqb, refl, sym, ap, arith, drop_of_length-le}
+use Rattle.std.proofs.Math.Dec.{eqb-suc-zero}
+use Rattle.std.proofs.Math.Option.{none}
 use Rattle.refusal.specs.Base.{maybe}
 use Rattle.utf8.specs.Utf8.{Range, ◌‥◌, Row, tail, table, tails_of, utf8_from}
 use Rattle.utf8.specs.Contract.{due_of}
 use Rattle.utf8.proofs.Ranges.{below, above, inside}
 use Rattle.utf8.proofs.TableLaws.{passed, in_row, no_row, past-rows}
-use lib.Dec.{eqb-suc-zero}
-use mathlib.Core.Option.{none}
 
 module _ (b : ℕ) (rest : List ℕ) where
   row_first : (n : ℕ) (r : Row) (rows : List Row) → drop n table ≡ r ∷ rows → passed n table r.first.low ≡ true → r.first.low ≤ b → b ≤ r.first.high → utf8_from [] (b ∷ rest) ≡ utf8_from r.behind rest

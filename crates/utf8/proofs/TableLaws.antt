@@ -1,14 +1,7 @@
 -- What the table of UTF-8 says of a first byte, by where the byte lies. The rows are in the order of their first bytes, so those
 -- before a row and those behind it need one comparison each, which computes. Assumes nothing.
-use mathlib.Core.Path.{◌≡◌, refl, ap, ◌∙◌}
-use mathlib.Core.List.{List, [], ◌∷◌}
-use mathlib.Core.Bool.{Bool, true, ◌&&◌}
-use mathlib.Core.Option.{none, some}
-use Prim.Native.Nat.{ℕ, zero, suc, ◌≤◌, ◌<◌}
-use native.Mathlib.Omega.{arith}
-use lib.Dec.{leb, ltb}
-use lib.ListN.{drop}
-use borrow.Author.Tests.{leb-true, ltb-true}
+use Rattle.std.proofs.Common.{◌≡◌, refl, ap, ◌∙◌, List, [], ◌∷◌, Bool, true, ◌&&◌, ℕ, zero, suc, ◌≤◌, ◌<◌, arith, leb, ltb, drop, leb-true, ltb-true}
+use Rattle.std.proofs.Math.Option.{none, some}
 use Rattle.utf8.specs.Utf8.{Row, table, behind_in, tails_of}
 use Rattle.utf8.proofs.Ranges.{if-both, inside, below, above}
 

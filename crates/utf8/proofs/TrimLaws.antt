@@ -1,13 +1,9 @@
 -- White space added to a text is trimmed again, and what is trimmed has no more to trim. Assumes nothing.
 use Rattle.std.specs.Prelude.{if◌then◌else◌}
-use mathlib.Core.Path.{◌≡◌, refl, sym, ap, ◌∙◌}
-use mathlib.Core.List.{List, [], ◌∷◌, ◌++◌, append_assoc, append-nil}
-use mathlib.Core.Bool.{Bool, true, false, false≢true}
-use mathlib.Core.Option.{Option, none, some}
-use Prim.Native.Nat.{ℕ, zero, suc, ◌≤◌, ◌<◌}
-use native.Mathlib.Omega.{arith}
-use lib.ListN.{length, drop, replicate, take-append-drop}
-use lib.Seq.{drop-length}
+use Rattle.std.proofs.Common.{◌≡◌, refl, sym, ap, ◌∙◌, List, [], ◌∷◌, ◌++◌, append_assoc, append-nil, Bool, true, false, ℕ, zero, suc, ◌≤◌, ◌<◌, arith, length, drop, replicate, take-append-drop}
+use Rattle.std.proofs.Math.Bool.{false≢true}
+use Rattle.std.proofs.Math.Option.{Option, none, some}
+use Rattle.std.proofs.Math.Seq.{drop-length}
 use Rattle.refusal.specs.Base.{maybe, empty}
 use Rattle.utf8.specs.Utf8.{within}
 use Rattle.utf8.specs.White.{white1, white2, white_at, white_len, leading_from, leading, trim_start, all_white, trim_end, trim}

@@ -1,16 +1,10 @@
 -- Where UTF-8 can be cut and joined: laws for proofs of code that takes parts of a text. Assumes nothing.
 use Rattle.std.specs.Str.{IsAscii}
 use Rattle.std.specs.Prelude.{if◌then◌else◌}
-use mathlib.Core.Path.{◌≡◌, refl, sym, ap, ◌∙◌}
-use mathlib.Core.List.{List, [], ◌∷◌, ◌++◌}
-use mathlib.Core.Bool.{Bool, true, false, ◌&&◌, ◌||◌, false≢true}
-use mathlib.Core.Option.{Option, none, some}
-use Prim.Native.Nat.{ℕ, zero, suc, ◌+◌, ◌-◌, ◌≤◌, ◌<◌}
-use native.Mathlib.Omega.{arith}
-use lib.Dec.{leb, ltb, eqb}
-use lib.ListN.{length, get_or, take, drop, replicate, length-drop, drop_of_length-le}
-use lib.Seq.{drop-cons, get_or-drop, take_all, split_at}
-use borrow.Author.Tests.{leb-true, ltb-true, ltb-false, eqb-true}
+use Rattle.std.proofs.Common.{◌≡◌, refl, sym, ap, ◌∙◌, List, [], ◌∷◌, ◌++◌, Bool, true, false, ◌&&◌, ◌||◌, ℕ, zero, suc, ◌+◌, ◌-◌, ◌≤◌, ◌<◌, arith, leb, ltb, eqb, length, get_or, take, drop, replicate, length-drop, drop_of_length-le, drop-cons, get_or-drop, take_all, leb-true, ltb-true, ltb-false, eqb-true}
+use Rattle.std.proofs.Math.Bool.{false≢true}
+use Rattle.std.proofs.Math.Option.{Option, none, some}
+use Rattle.std.proofs.Math.Seq.{split_at}
 use Rattle.refusal.specs.Base.{maybe, empty}
 use Rattle.utf8.specs.Utf8.{Range, Row, ◌‥◌, within, tail, table, behind_in, tails_of, utf8_from, is_utf8}
 use Rattle.utf8.proofs.Ranges.{if-both, if-one, inside}

@@ -1,14 +1,8 @@
 -- The white space of a text is that of its code points: a text that begins with a code point begins with white space just where
 -- document 01 counts the code point as white space, and the white space character is as long as the code point's UTF-8. Assumes nothing.
 use Rattle.std.specs.Prelude.{if◌then◌else◌}
-use mathlib.Core.Path.{◌≡◌, refl, sym, ◌∙◌}
-use mathlib.Core.List.{List, [], ◌∷◌, ◌++◌}
-use mathlib.Core.Bool.{Bool, true, false, ◌&&◌, ◌||◌, false≢true}
-use Prim.Native.Nat.{ℕ, ◌+◌, ◌/◌, ◌%◌, ◌≤◌, ◌<◌, ◌^◌}
-use native.Mathlib.Omega.{arith}
-use lib.Dec.{leb, eqb}
-use lib.ListN.{length, drop}
-use borrow.Author.Tests.{leb-true, leb-false, eqb-true, ne_eqb}
+use Rattle.std.proofs.Common.{◌≡◌, refl, sym, ◌∙◌, List, [], ◌∷◌, ◌++◌, Bool, true, false, ◌&&◌, ◌||◌, ℕ, ◌+◌, ◌/◌, ◌%◌, ◌≤◌, ◌<◌, ◌^◌, arith, leb, eqb, length, drop, leb-true, leb-false, eqb-true, ne_eqb}
+use Rattle.std.proofs.Math.Bool.{false≢true}
 use Rattle.refusal.specs.Base.{maybe}
 use Rattle.utf8.specs.Utf8.{Range, ◌‥◌, within}
 use Rattle.utf8.proofs.Ranges.{inside, above, if-both, if-one}

@@ -3,3 +3,4 @@ pub mod White
 pub mod Part
 pub mod Points
 pub mod Contract
+pub mod Places

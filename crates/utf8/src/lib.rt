@@ -1,10 +1,11 @@
 // UTF-8 as RFC 3629 has it, and white space in it. A text is any bytes, and a part of one runs from a place up to another.
 #![tactic(auto)]
 
-ghost use Rattle.std.specs.Prelude.{◌≡◌, true, [], ◌+◌, ◌≤◌, ◌<◌, length};
+ghost use Rattle.std.specs.Prelude.{◌≡◌, ℕ, true, false, [], ◌+◌, ◌≤◌, ◌<◌, length};
 ghost use Rattle.utf8.specs.Utf8.{is_utf8};
 ghost use Rattle.utf8.specs.White.{white1, white2, white3, in2000, white_len, leading, trim_end, trim};
 ghost use Rattle.utf8.specs.Part.{part};
+ghost use Rattle.utf8.specs.Places.{First};
 ghost use Rattle.utf8.specs.Contract.{due_of, Follows, Ends};
 
 // What must still come of a character: how many bytes, and where the next of them lies. Those behind it may be any tail.
@@ -57,7 +58,8 @@ impl Due {
     }
 }
 
-// Whether a text is UTF-8. Most are ASCII, and the others are read byte by byte.
+/// Whether a text is UTF-8 as RFC 3629 has it, which leaves out surrogates and longer forms than a character needs.
+// Most are ASCII, and the others are read byte by byte.
 #[tactic(auto, using(crate::proofs::Rows::ended), unfolding(crate::specs::Utf8::is_utf8))]
 pub fn is_utf8(text: &[u8]) -> bool
     ensures { result ≡ is_utf8 text.now }
@@ -125,7 +127,7 @@ fn in_2000(c: u8) -> bool
     matches!(c, 0xa8 | 0xa9 | 0xaf)
 }
 
-// How many bytes the white space character has that stands at `at`, in the part up to `to`; 0 where none does.
+/// How many bytes the white space character has that stands at `at`, in the part up to `to`; 0 where none does.
 #[tactic(auto, using(crate::proofs::Turns::whites))]
 pub fn white_at(s: &[u8], at: usize, to: usize) -> usize
     requires { (at ≤ to) × (to ≤ length s.now) }
@@ -154,7 +156,8 @@ fn white_before(s: &[u8], from: usize, to: usize) -> usize
     0
 }
 
-// Where the leading white space of a part ends. A loop, as each character has one to three bytes.
+/// Where the leading white space of a part ends.
+// A loop, as each character has one to three bytes.
 pub fn trim_start(s: &[u8], from: usize, to: usize) -> usize
     requires { (from ≤ to) × (to ≤ length s.now) }
     ensures value { result ≡ from + leading (part s.now from to) }
@@ -174,8 +177,8 @@ pub fn trim_start(s: &[u8], from: usize, to: usize) -> usize
     at
 }
 
-// Where a part ends without the white space at its end. It goes back from `to`, so that a long part costs only what is trimmed; a loop, as
-// `trim_start`.
+/// Where a part ends without the white space at its end. It goes back from `to`, so that a long part costs only what is trimmed.
+// A loop, as `trim_start`.
 pub fn trim_end(s: &[u8], from: usize, to: usize) -> usize
     requires { (from ≤ to) × (to ≤ length s.now) }
     ensures value { result ≡ from + length (trim_end (part s.now from to)) }
@@ -195,7 +198,25 @@ pub fn trim_end(s: &[u8], from: usize, to: usize) -> usize
     end
 }
 
-// A text without the white space at both ends.
+/// The first place from `from` on and before `to` that passes a test, or `to`.
+// A `while`: std's `find` over a range takes two instructions more for each place.
+pub fn first_place<F: Fn(usize) -> bool>(from: usize, to: usize, test: F) -> usize
+    requires order { from ≤ to }
+    requires callable { (k : ℕ) → from ≤ k → k < to → F.pre test k }
+    ensures { First (λ k. F.post test k true) (λ k. F.post test k false) from to result }
+{
+    let mut place = from;
+    while place < to {
+        let passes = test(place);
+        if passes {
+            break;
+        }
+        place += 1;
+    }
+    place
+}
+
+/// A text without the white space at both ends, lent from the text itself.
 pub fn trimmed(s: &[u8]) -> &[u8]
     ensures result_value { result.now ≡ trim s.now }
     ensures within { length result.now ≤ length s.now }

@@ -1,16 +1,8 @@
 -- The content of each kind, and the item around it. Assumes nothing.
 use Rattle.std.specs.Prelude.{if◌then◌else◌}
-use mathlib.Core.Path.{◌≡◌, refl, sym, ◌∙◌, subst}
-use Prim.Native.Nat.{ℕ, zero, suc, ◌-◌, ◌^◌, ◌≤◌, ◌<◌}
-use native.Mathlib.Omega.{arith}
-use mathlib.Core.List.{List, [], ◌∷◌}
-use mathlib.Core.Bool.{Bool, true, false}
-use mathlib.Core.Option.{Option, none, some}
-use lib.Dec.{ltb, eqb}
-use lib.ListN.{length, get_or}
-use lib.IntN.{pos, negsuc}
+use Rattle.std.proofs.Common.{◌≡◌, refl, sym, ◌∙◌, subst, ℕ, zero, suc, ◌-◌, ◌^◌, ◌≤◌, ◌<◌, arith, List, [], ◌∷◌, Bool, true, false, ltb, eqb, length, get_or, pos, negsuc, lt-ltb, le-ltb, ne_eqb, ltb-true, ltb-false, eqb-true}
+use Rattle.std.proofs.Math.Option.{Option, none, some}
 use lib.Signed.{mag}
-use borrow.Author.Tests.{lt-ltb, le-ltb, ne_eqb, ltb-true, ltb-false, eqb-true}
 use Rattle.refusal.specs.Base.{maybe}
 use Rattle.utf8.specs.Utf8.{is_utf8}
 use Rattle.item.specs.Tree.{Yaml, Items, Entries, int, seq, dict}
@@ -20,37 +12,32 @@ use Rattle.item.proofs.Exact.{number_small}
 use Rattle.meaning.specs.Sound.{sound}
 use Rattle.value.specs.Tree.{tree, inside, accepts, accepts_items, accepts_entries}
 
--- bytes by their places
-pub bytes_of : (s : List ℕ) → ((i : ℕ) → get_or s i 0 < 256) → Bytes s
-bytes_of [] h = tt
-bytes_of (b ∷ s) h = (h 0, bytes_of s (λ i. h (suc i)))
-
 -- ---- scalars
 
-pub null-content : (l : ℕ) (s : List ℕ) → accepts l 0 s ≡ eqb (length s) 0
+pub null_content : (l : ℕ) (s : List ℕ) → accepts l 0 s ≡ eqb (length s) 0
 unfolding accepts content_of nothing sound maybe
-null-content l [] = refl
-null-content l (b ∷ s) = sym (ne_eqb (suc (length s)) 0 (λ e. omega arith))
+null_content l [] = refl
+null_content l (b ∷ s) = sym (ne_eqb (suc (length s)) 0 (λ e. omega arith))
 
-pub flag-content : (l : ℕ) (s : List ℕ) → accepts l 1 s ≡ accepts 0 1 s
+pub flag_content : (l : ℕ) (s : List ℕ) → accepts l 1 s ≡ accepts 0 1 s
 unfolding accepts content_of
-flag-content l s = refl
+flag_content l s = refl
 
-pub flag-size : (s : List ℕ) → (length s ≡ 1 → ⊥) → accepts 0 1 s ≡ false
+pub flag_size : (s : List ℕ) → (length s ≡ 1 → ⊥) → accepts 0 1 s ≡ false
 unfolding accepts content_of unflag nothing maybe ◌>>=◌
-flag-size [] h = refl
-flag-size (b ∷ []) h = absurd (h refl)
-flag-size (zero ∷ c ∷ s) h = refl
-flag-size (suc zero ∷ c ∷ s) h = refl
-flag-size (suc (suc b) ∷ c ∷ s) h = refl
+flag_size [] h = refl
+flag_size (b ∷ []) h = absurd (h refl)
+flag_size (zero ∷ c ∷ s) h = refl
+flag_size (suc zero ∷ c ∷ s) h = refl
+flag_size (suc (suc b) ∷ c ∷ s) h = refl
 
-pub flag-byte : (s : List ℕ) → length s ≡ 1 → accepts 0 1 s ≡ ltb (get_or s 0 0) 2
+pub flag_byte : (s : List ℕ) → length s ≡ 1 → accepts 0 1 s ≡ ltb (get_or s 0 0) 2
 unfolding accepts content_of unflag nothing sound maybe ◌>>=◌
-flag-byte [] h = absurd (omega arith)
-flag-byte (zero ∷ []) h = refl
-flag-byte (suc zero ∷ []) h = refl
-flag-byte (suc (suc b) ∷ []) h = sym (le-ltb (suc (suc b)) 2 (omega arith))
-flag-byte (b ∷ c ∷ s) h = absurd (omega arith)
+flag_byte [] h = absurd (omega arith)
+flag_byte (zero ∷ []) h = refl
+flag_byte (suc zero ∷ []) h = refl
+flag_byte (suc (suc b) ∷ []) h = sym (le-ltb (suc (suc b)) 2 (omega arith))
+flag_byte (b ∷ c ∷ s) h = absurd (omega arith)
 
 untwos-small : (n : ℕ) → n < 256 ^ 8 → mag (untwos n) < 2 ^ 63
 unfolding untwos
@@ -60,9 +47,9 @@ untwos-small n h = go (ltb n (2 ^ 63)) refl
     go true e = ltb-true _ _ e
     go false e = let i : 2 ^ 63 ≤ n = ltb-false _ _ e in omega arith
 
-pub int-content : (l : ℕ) (s : List ℕ) → Bytes s → accepts l 2 s ≡ eqb (length s) 8
+pub int_content : (l : ℕ) (s : List ℕ) → Bytes s → accepts l 2 s ≡ eqb (length s) 8
 unfolding accepts content_of unint sound maybe ◌>>=◌
-int-content l s b = go (eqb (length s) 8) refl
+int_content l s b = go (eqb (length s) 8) refl
   where
     go : (t : Bool) → eqb (length s) 8 ≡ t → maybe ((if t then some (untwos (number s)) else none) >>= λ z. some (int z)) false sound ≡ t
     go true e =
@@ -70,9 +57,9 @@ int-content l s b = go (eqb (length s) 8) refl
         lt-ltb (mag (untwos (number s))) (2 ^ 63) (untwos-small (number s) (subst (λ (k : ℕ). number s < 256 ^ k) n (number_small s b)))
     go false e = refl
 
-pub string-content : (l : ℕ) (s : List ℕ) → accepts l 3 s ≡ is_utf8 s
+pub string_content : (l : ℕ) (s : List ℕ) → accepts l 3 s ≡ is_utf8 s
 unfolding accepts content_of sound maybe
-string-content l s = refl
+string_content l s = refl
 
 -- ---- collections
 
@@ -86,18 +73,18 @@ unfolding maybe ◌>>=◌ sound
 sound-entries none = refl
 sound-entries (some es) = refl
 
-pub sequence-content : (l m : ℕ) (s : List ℕ) → l ≡ suc m → accepts l 4 s ≡ accepts_items m s
+pub sequence_content : (l m : ℕ) (s : List ℕ) → l ≡ suc m → accepts l 4 s ≡ accepts_items m s
 unfolding accepts accepts_items content_of inside ◌>>=◌
-sequence-content l m s h = rw h (sound-items (decode_items (λ r. decode m r) (length s) s))
+sequence_content l m s h = rw h (sound-items (decode_items (λ r. decode m r) (length s) s))
 
-pub mapping-content : (l m : ℕ) (s : List ℕ) → l ≡ suc m → accepts l 5 s ≡ accepts_entries m s
+pub mapping_content : (l m : ℕ) (s : List ℕ) → l ≡ suc m → accepts l 5 s ≡ accepts_entries m s
 unfolding accepts accepts_entries content_of inside ◌>>=◌
-mapping-content l m s h = rw h (sound-entries (decode_entries (λ r. decode m r) (length s) s))
+mapping_content l m s h = rw h (sound-entries (decode_entries (λ r. decode m r) (length s) s))
 
 -- no level is left, or there is no such kind
-pub too-deep : (k : ℕ) (s : List ℕ) → 4 ≤ k → accepts 0 k s ≡ false
+pub too_deep : (k : ℕ) (s : List ℕ) → 4 ≤ k → accepts 0 k s ≡ false
 unfolding accepts content_of inside maybe ◌>>=◌
-too-deep k s h = rw (other k 0 (omega arith), other k 1 (omega arith), other k 2 (omega arith), other k 3 (omega arith)) (go (eqb k 4) (eqb k 5))
+too_deep k s h = rw (other k 0 (omega arith), other k 1 (omega arith), other k 2 (omega arith), other k 3 (omega arith)) (go (eqb k 4) (eqb k 5))
   where
     other : (a b : ℕ) → b < a → eqb a b ≡ false
     other a b h = ne_eqb a b (λ e. omega arith)

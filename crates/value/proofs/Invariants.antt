@@ -1,15 +1,8 @@
 -- A turn of each loop: what is left to be read decides as all of it does. Assumes nothing.
 use Rattle.std.specs.Prelude.{if◌then◌else◌}
-use mathlib.Core.Path.{◌≡◌, refl, sym, ap, ◌∙◌, subst}
-use Prim.Native.Nat.{ℕ, zero, suc, ◌+◌, ◌-◌, ◌≤◌, ◌<◌}
-use native.Mathlib.Omega.{arith}
-use mathlib.Core.List.{List, [], ◌∷◌}
-use mathlib.Core.Bool.{Bool, true, false, ◌&&◌, ◌||◌, not, false≢true}
-use mathlib.Core.Option.{Option, none, some, none-ne-some, some-injective}
-use lib.ListN.{length, take, drop, drop_of_length-le, length-take, length-drop}
-use lib.Seq.{take_all}
-use borrow.Author.Tests.{ne_eqb, eqb-true, eqb-false}
-use lib.Dec.{eqb}
+use Rattle.std.proofs.Common.{◌≡◌, refl, sym, ap, ◌∙◌, ℕ, zero, suc, ◌+◌, ◌-◌, ◌≤◌, ◌<◌, arith, List, [], ◌∷◌, Bool, true, false, ◌&&◌, ◌||◌, not, length, take, drop, drop_of_length-le, length-take, length-drop, take_all, ne_eqb, eqb-true, eqb}
+use Rattle.std.proofs.lemmas.Bool.{false≢true, eqb-false}
+use Rattle.std.proofs.Math.Option.{Option, none, some, none-ne-some, some-injective}
 use Rattle.refusal.specs.Base.{maybe}
 use Rattle.refusal.proofs.Tools.{chosen}
 use Rattle.utf8.specs.Utf8.{is_utf8}
@@ -23,15 +16,12 @@ use Rattle.entries.specs.Entries.{Lies, key_twice}
 use Rattle.entries.proofs.Walking.{lies-between}
 use Rattle.value.specs.Walks.{ReadAt}
 use Rattle.value.proofs.Contents.{no_header, content-refused, content-taken}
-use Rattle.item.specs.Walk.{GivesItem}
 use Rattle.item.specs.Places.{header_at}
 use Rattle.item.specs.declared.Item.{Item}
 use Rattle.item.specs.declared.Broken.{Broken}
-use Rattle.item.specs.declared.walk.Items.{Items as Walk}
 use Rattle.item.proofs.HeaderPlaces.{at_cut}
-use Rattle.item.proofs.Headers.{Spans, spans, header-item, no_header as no-item-there}
-use Rattle.std.proofs.Common.{Bor}
-use Rattle.std.specs.Prelude.{Some, None, Result, Ok, Err}
+use Rattle.item.proofs.Headers.{spans, header-item, no_header as no-item-there}
+use Rattle.std.specs.Prelude.{Ok, Err}
 
 -- ---- parts
 
@@ -323,41 +313,3 @@ module _ (l : ℕ) (s : List ℕ) (at : ℕ) {key : Item} (h : Ok key ≡ header
           forward = omega (arith, r.forward, i.start, i.order);
           fits = r.fits;
         }
-
--- ---- a turn of a loop over items
-
--- the item at the place is given, and the walk goes on behind it
-pub record Step (s : List ℕ) (at : ℕ) (item : Item) (new : Walk) : Type 0 where
-  pub before : at < length s
-  pub is : Ok item ≡ header_at s at
-  pub places : Spans s at item.from item.to
-  pub bytes : new.bytes.now ≡ s
-  pub end : new.to ≡ length s
-  pub next : new.at ≡ item.to
-
--- no item stands there
-pub record Stop (s : List ℕ) (at : ℕ) (broken : Broken) : Type 0 where
-  pub before : at < length s
-  pub is : Err broken ≡ header_at s at
-
-module _ (old new : Walk) {s : List ℕ} (b : old.bytes.now ≡ s) (t : old.to ≡ length s) where
-  pub step : {r : Result Item Broken} {item : Item} → GivesItem old (Some r) new → r ≡ Ok item → Step s old.at item new
-  step {item = item} g e =
-      let h = subst (λ (x : Result Item Broken). GivesItem old (Some x) new) e g in
-      let i : Ok item ≡ header_at s old.at = rw (← b) (sym h.1) in
-      record {
-        before = omega (arith, h.0, t);
-        is = i;
-        places = spans s old.at i;
-        bytes = ap (λ (x : Bor (List ℕ)). x.now) h.2.bytes ∙ b;
-        end = h.2.to ∙ t;
-        next = h.3;
-      }
-
-  pub stop : {r : Result Item Broken} {broken : Broken} → GivesItem old (Some r) new → r ≡ Err broken → Stop s old.at broken
-  stop g e =
-      let h = subst (λ (x : Result Item Broken). GivesItem old (Some x) new) e g in
-      record { before = omega (arith, h.0, t); is = rw (← b) (sym h.1) }
-
-  pub over : GivesItem old None new → length s ≤ old.at
-  over g = omega (arith, g.0, t)

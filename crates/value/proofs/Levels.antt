@@ -1,14 +1,6 @@
 -- A tree that was read has no more levels than were allowed, and a sound tree is read back. Assumes nothing.
-use mathlib.Core.Path.{◌≡◌, refl, subst}
-use Prim.Native.Nat.{ℕ, zero, suc, ◌^◌, ◌≤◌, ◌<◌}
-use native.Mathlib.Nat.{le_refl}
-use native.Mathlib.Omega.{arith}
-use mathlib.Core.List.{List, [], ◌∷◌, ◌++◌}
-use mathlib.Core.Bool.{true, ◌&&◌, not}
-use mathlib.Core.Option.{Option, none, some, some-injective}
-use lib.Dec.{eqb}
-use lib.ListN.{length}
-use borrow.Author.Tests.{ltb-true}
+use Rattle.std.proofs.Common.{◌≡◌, refl, subst, ℕ, zero, suc, ◌^◌, ◌≤◌, ◌<◌, le_refl, arith, List, [], ◌∷◌, ◌++◌, true, ◌&&◌, not, eqb, length, ltb-true}
+use Rattle.std.proofs.Math.Option.{Option, none, some, some-injective}
 use Rattle.refusal.proofs.Tools.{chosen}
 use Rattle.utf8.specs.Utf8.{is_utf8}
 use Rattle.item.specs.Tree.{Shape, Node, Yaml, null, bool, int, str, seq, dict, Items, end, ◌▸◌, Entries, done, pair, has_key, levels, Ranged}

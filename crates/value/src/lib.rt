@@ -2,15 +2,16 @@
 // an item is lent as a slice of its own; `levels` collections may be open in it, one in another.
 #![tactic(auto)]
 
-ghost use Rattle.std.specs.Prelude.{◌≡◌, ◌≤◌, ◌^◌, length};
+ghost use Rattle.std.specs.Prelude.{◌≡◌};
 ghost use Rattle.value.specs.Tree.{tree, accepts, accepts_items, accepts_entries};
 ghost use Rattle.value.specs.Walks.{Walks};
 
 use entries::repeats;
-use item::{Items, Kind, header_at};
+use item::{Encoded, Items, Kind, header_at};
 use utf8::is_utf8;
 
 // One byte, 0 or 1.
+#[tactic(auto, using(crate::proofs::Contents::flag_byte, crate::proofs::Contents::flag_size))]
 fn flag(content: &[u8]) -> bool
     ensures { result ≡ accepts 0 1 content.now }
 {
@@ -19,18 +20,18 @@ fn flag(content: &[u8]) -> bool
 
 // Whether this is the content of a value of this kind.
 #[cycle(values)]
-fn value(kind: usize, content: &[u8], levels: usize) -> bool
-    requires { length content.now ≤ 2 ^ 20 }
-    ensures { result ≡ accepts levels kind content.now }
+#[tactic(auto, using(crate::proofs::Contents::null_content, crate::proofs::Contents::flag_content, crate::proofs::Contents::int_content, crate::proofs::Contents::string_content, crate::proofs::Contents::sequence_content, crate::proofs::Contents::mapping_content, crate::proofs::Contents::too_deep), unfolding(item::specs::Kinds::number_of))]
+fn value(kind: usize, content: Encoded<'_>, levels: usize) -> bool
+    ensures { result ≡ accepts levels kind content.entry.bytes.now }
 {
     let Ok(kind) = Kind::try_from(kind) else {
         return false;
     };
     match kind {
-        Kind::Null => content.is_empty(),
-        Kind::Bool => flag(content),
-        Kind::Int => content.len() == 8,
-        Kind::Str => is_utf8(content),
+        Kind::Null => content.bytes.is_empty(),
+        Kind::Bool => flag(content.bytes),
+        Kind::Int => content.all().len() == 8,
+        Kind::Str => is_utf8(content.bytes),
         Kind::Seq => levels > 0 && items(content, levels - 1),
         Kind::Map => levels > 0 && entries(content, levels - 1),
         _ => false,
@@ -38,15 +39,15 @@ fn value(kind: usize, content: &[u8], levels: usize) -> bool
 }
 
 #[cycle(values)]
-fn items(s: &[u8], levels: usize) -> bool
-    requires { length s.now ≤ 2 ^ 20 }
-    ensures { result ≡ accepts_items levels s.now }
+#[tactic(auto, using(item::proofs::Turns::placed))]
+fn items(s: Encoded<'_>, levels: usize) -> bool
+    ensures { result ≡ accepts_items levels s.entry.bytes.now }
 {
-    for item in Items::new(s) {
+    for item in Items::new(s.bytes) {
         let Ok(item) = item else {
             return false;
         };
-        if !value(item.kind, &s[item.from..item.to], levels) {
+        if !value(item.kind, s.slice(item.from, item.to), levels) {
             return false;
         }
     }
@@ -55,16 +56,16 @@ fn items(s: &[u8], levels: usize) -> bool
 
 // Keys and values in turn. Whether a key stands twice is judged once, when all are read.
 #[cycle(values)]
-fn entries(s: &[u8], levels: usize) -> bool
-    requires { length s.now ≤ 2 ^ 20 }
-    ensures { result ≡ accepts_entries levels s.now }
+#[tactic(auto, using(item::proofs::Turns::placed))]
+fn entries(s: Encoded<'_>, levels: usize) -> bool
+    ensures { result ≡ accepts_entries levels s.entry.bytes.now }
 {
-    let mut walk = Items::new(s);
+    let mut walk = Items::new(s.bytes);
     while let Some(key) = walk.next() {
         let Ok(key) = key else {
             return false;
         };
-        if key.kind != Kind::Str as usize || !is_utf8(&s[key.from..key.to]) {
+        if key.kind != Kind::Str as usize || !is_utf8(&s.bytes[key.from..key.to]) {
             return false;
         }
         let Some(item) = walk.next() else {
@@ -73,18 +74,18 @@ fn entries(s: &[u8], levels: usize) -> bool
         let Ok(item) = item else {
             return false;
         };
-        if !value(item.kind, &s[item.from..item.to], levels) {
+        if !value(item.kind, s.slice(item.from, item.to), levels) {
             return false;
         }
     }
-    !repeats(s, 0, s.len())
+    let whole = s.all();
+    !repeats(s.part(0, whole.len()))
 }
 
-// The end of the value that begins at `at`. The content of a value is lent as a slice of its own.
-pub fn value_at(s: &[u8], at: usize, levels: usize) -> Option<usize>
-    requires { length s.now ≤ 2 ^ 20 }
-    ensures { Walks (tree levels) s.now at result }
+/// The end of the value that begins at `at`: any place. At most `levels` collections may be open in it, one in another.
+pub fn value_at(s: Encoded<'_>, at: usize, levels: usize) -> Option<usize>
+    ensures { Walks (tree levels) s.entry.bytes.now at result }
 {
-    let item = header_at(s, at).ok()?;
-    value(item.kind, &s[item.from..item.to], levels).then_some(item.to)
+    let item = header_at(s.bytes, at).ok()?;
+    value(item.kind, s.slice(item.from, item.to), levels).then_some(item.to)
 }

@@ -1,15 +1,12 @@
 -- How calls on a writer add up: bytes behind bytes, an item's content behind its header, a header filled in behind its content. Assumes
 -- nothing.
-use mathlib.Core.Path.{◌≡◌, refl, sym, ap, ◌∙◌}
-use Prim.Native.Nat.{ℕ, suc, ◌+◌, ◌-◌, ◌≤◌}
-use native.Mathlib.Nat.{add-zero}
-use native.Mathlib.Omega.{arith}
-use mathlib.Core.List.{List, [], ◌∷◌, ◌++◌}
-use lib.ListN.{length, set, take, length-append}
-use lib.Seq.{sets, length-sets, take-set-le, take-take}
+use Rattle.std.proofs.Common.{◌≡◌, refl, sym, ap, ◌∙◌, ℕ, suc, ◌+◌, ◌-◌, ◌≤◌, add-zero, arith, List, [], ◌∷◌, ◌++◌, append_assoc, length, set, take, drop, replicate, length-append, take-take, drop-drop}
+use Rattle.std.proofs.Math.ListN.{length-replicate}
+use Rattle.std.proofs.Math.Seq.{sets, sets-eq, length-sets, take-set-le}
+use borrow.Rule.Slice.PartMut.{put_mid}
 use Rattle.item.specs.Encode.{head, item}
 use Rattle.item.proofs.Size.{head-length, item-length}
-use Rattle.item.proofs.Runs.{sets-append, sets-before, sets-item}
+use Rattle.item.proofs.Runs.{sets-append, sets-before, sets_item}
 use Rattle.writer.specs.declared.Writer.{Writer}
 use Rattle.writer.specs.Writing.{Appends, Begins, Fills, Keeps, CutsBack}
 
@@ -37,7 +34,7 @@ appends_item {a} {b} {c} kind size {content} p q e =
     let n : b.used ≡ a.used + 6 = header_used kind size p in record {
       same_reference = q.same_reference ∙ p.same_reference;
       out = q.out ∙ ap (λ (l : List ℕ). sets l b.used content) (p.out ∙ ap (λ (k : ℕ). sets a.out.now a.used (head kind k)) e)
-          ∙ ap (λ (k : ℕ). sets (sets a.out.now a.used (head kind (length content))) k content) n ∙ sets-item a.out.now a.used kind content;
+          ∙ ap (λ (k : ℕ). sets (sets a.out.now a.used (head kind (length content))) k content) n ∙ sets_item a.out.now a.used kind content;
       used = omega (arith, n, q.used, item-length kind content);
     }
 
@@ -55,6 +52,13 @@ filled {a} {b} {c} {d} {header} kind {content} p q r =
           ∙ sets-before (head kind (length content)) content a.out.now a.used;
       used = omega (arith, p.used, q.used, r.used, item-length kind content);
     }
+
+-- a part that is filled
+pub part_filled : (out ys : List ℕ) (at n v : ℕ) → at + n ≤ length out → ys ≡ replicate n v → put_mid at (at + n - at) out ys ≡ sets out at (replicate n v)
+part_filled out ys at n v h e =
+    let k : at + n - at ≡ n = omega arith in
+    let l : length (replicate n v) ≡ n = length-replicate n v in
+    rw (k, e, drop-drop n at out, sets-eq (replicate n v) out at (omega arith), l) (sym (append_assoc (take at out) (replicate n v) (drop (at + n) out)))
 
 -- ---- what is kept
 

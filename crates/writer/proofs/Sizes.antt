@@ -1,6 +1,5 @@
 -- How many bytes items have, by their kinds. Assumes nothing.
-use Rattle.std.proofs.Common.{◌≡◌, ℕ, ◌+◌, List, length, Bool}
-use lib.IntN.{ℤ}
+use Rattle.std.proofs.Common.{◌≡◌, ℕ, ◌+◌, List, length, Bool, ℤ}
 use Rattle.item.specs.Tree.{null, bool, int, str}
 use Rattle.item.specs.Encode.{head, encode}
 use Rattle.item.proofs.Size.{head-length, encode-size}

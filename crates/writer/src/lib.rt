@@ -1,11 +1,11 @@
 // A lent output, of which the front is used: readers write items into it as they read.
 #![tactic(auto)]
 
-ghost use Rattle.std.specs.Prelude.{◌≡◌, ◌+◌, ◌-◌, ◌≤◌, ◌<◌, ◌^◌, [], ◌∷◌, length, take, MatchResult};
+ghost use Rattle.std.specs.Prelude.{◌≡◌, ◌+◌, ◌-◌, ◌≤◌, ◌<◌, ◌^◌, [], ◌∷◌, length, take, replicate, MatchResult};
 ghost use Rattle.item.specs.Tree.{null, bool, int, str};
 ghost use Rattle.item.specs.Encode.{head, signed, encode};
 
-use item::{Integer, Kind};
+use item::{Encoded, Integer, Kind};
 use refusal::Refusal;
 
 // How many bytes an item's header has.
@@ -21,6 +21,7 @@ pub struct Writer<'a> {
 }
 
 impl<'a> Writer<'a> {
+    /// A writer into all of an output, none of which is used yet.
     pub fn new(out: &'a mut [u8]) -> Writer<'a>
         requires { length out.old ≤ 2 ^ 20 }
         ensures same_reference { result.out.ghost_name ≡ out.entry.ghost_name }
@@ -35,6 +36,7 @@ impl Writer<'_> {
     ghost use Rattle.item.specs.Kinds.{number_of};
     ghost use Rattle.writer.specs.Writing.{room_of, Appends, Begins, Fills, CutsBack};
 
+    /// How many bytes are used.
     pub fn used(&self) -> usize
         ensures { result ≡ self.now.used }
     {
@@ -42,10 +44,12 @@ impl Writer<'_> {
     }
 
     /// The bytes that are used.
-    pub fn bytes(&self) -> &[u8]
-        ensures { result.now ≡ take self.now.used self.now.out.now }
+    pub fn written(&self) -> Encoded<'_>
+        ensures { result.bytes.now ≡ take self.now.used self.now.out.now }
     {
-        &self.out[..self.used]
+        Encoded {
+            bytes: &self.out[..self.used],
+        }
     }
 
     /// Whether so many bytes more fit.
@@ -60,21 +64,37 @@ impl Writer<'_> {
         }
     }
 
+    /// Puts bytes as they are, without a header.
     pub fn put(&mut self, bytes: &[u8])
         requires { length bytes.now ≤ room_of self.old }
         ensures { Appends self.old self.new bytes.now }
     {
+        let at = self.used;
         let out = &mut *self.out;
-        item::copy(out, self.used, bytes);
-        self.used += bytes.len();
+        item::copy(out, at, bytes);
+        // Not `+=`: the bytes just written could have changed the field, which would be read again.
+        self.used = at + bytes.len();
     }
 
+    /// Puts one byte.
     pub fn push(&mut self, byte: u8)
         requires { self.old.used < length self.old.out.now }
         ensures { Appends self.old self.new (byte ∷ []) }
     {
-        self.out[self.used] = byte;
-        self.used += 1;
+        let at = self.used;
+        self.out[at] = byte;
+        // As in `put`.
+        self.used = at + 1;
+    }
+
+    /// Puts so many times the same byte.
+    pub fn fill(&mut self, byte: u8, count: usize)
+        requires { count ≤ room_of self.old }
+        ensures { Appends self.old self.new (replicate count byte) }
+    {
+        let out = &mut *self.out;
+        out[self.used..self.used + count].fill(byte);
+        self.used += count;
     }
 
     /// The header of an item whose content, of so many bytes, is still to be put.
@@ -89,6 +109,7 @@ impl Writer<'_> {
         self.used += HEADER;
     }
 
+    /// Puts an item, here and in the next three: its header and its content.
     #[tactic(auto, using(crate::proofs::Sizes::sizes))]
     pub fn null(&mut self)
         requires { 6 ≤ room_of self.old }
@@ -99,6 +120,7 @@ impl Writer<'_> {
         self.used += HEADER;
     }
 
+    /// Its content is one byte, 0 or 1.
     #[tactic(auto, using(crate::proofs::Sizes::sizes))]
     pub fn bool(&mut self, value: bool)
         requires { 7 ≤ room_of self.old }
@@ -109,6 +131,7 @@ impl Writer<'_> {
         self.used += HEADER + 1;
     }
 
+    /// Its content is eight bytes, little-endian, in two's complement.
     #[tactic(auto, using(crate::proofs::Sizes::sizes))]
     pub fn int(&mut self, n: Integer)
         requires { 14 ≤ room_of self.old }
@@ -119,6 +142,7 @@ impl Writer<'_> {
         self.used += HEADER + 8;
     }
 
+    /// Its content is the bytes themselves.
     #[tactic(auto, using(crate::proofs::Sizes::sizes))]
     pub fn string(&mut self, bytes: &[u8])
         requires { 6 + length bytes.now ≤ room_of self.old }

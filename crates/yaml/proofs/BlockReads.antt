@@ -1,8 +1,6 @@
 -- Block nodes of the grammar are read as YAML reads them (`ReadsBlock`): one induction over derivations. Assumes nothing.
-use mathlib.Core.Path.{◌≡◌, sym, ap, ◌∙◌, subst}
-use Prim.Native.Nat.{ℕ, ◌+◌, ◌≤◌}
-use mathlib.Core.List.{List, ◌++◌}
-use mathlib.Core.Option.{none, some}
+use Rattle.std.proofs.Common.{◌≡◌, sym, ap, ◌∙◌, subst, ℕ, ◌+◌, ◌≤◌, List, ◌++◌}
+use Rattle.std.proofs.Math.Option.{none, some}
 use Rattle.refusal.specs.Base.{good, maybe}
 use Rattle.item.specs.Tree.{many, keyed, Yaml, Items, Entries, has_key, levels}
 use Rattle.item.specs.Tree as Tree

@@ -1,14 +1,8 @@
 -- What the reader's steps for block nodes come to on the entries of a node's rows. Assumes nothing.
-use mathlib.Core.Path.{◌≡◌, refl, sym, ap, ◌∙◌, subst}
-use Prim.Native.Nat.{ℕ, zero, suc, ◌+◌, ◌-◌, ◌≤◌, ◌<◌}
-use native.Mathlib.Omega.{arith}
-use mathlib.Core.List.{List, [], ◌∷◌, ◌++◌, append_assoc, append-nil}
-use mathlib.Core.Bool.{true, false}
-use mathlib.Core.Option.{some, none-ne-some}
-use lib.Dec.{T, eqb}
-use lib.ListN.{length, drop, length-append, length-replicate}
-use lib.Seq.{take-append_seam}
-use borrow.Author.Tests.{eq-eqb, ne_eqb, le-leb}
+use Rattle.std.proofs.Common.{◌≡◌, refl, sym, ap, ◌∙◌, subst, ℕ, zero, suc, ◌+◌, ◌-◌, ◌≤◌, ◌<◌, arith, List, [], ◌∷◌, ◌++◌, append_assoc, append-nil, true, false, T, eqb, length, drop, length-append, eq-eqb, ne_eqb, le-leb}
+use Rattle.std.proofs.lemmas.List.{length-replicate}
+use Rattle.std.proofs.Math.Option.{some, none-ne-some}
+use Rattle.std.proofs.Math.Seq.{take-append_seam}
 use Rattle.refusal.specs.Base.{good, ◌>>=◌, ◌>>◌, ensure, given, maybe, ch, bytes, same, empty}
 use Rattle.utf8.specs.Utf8 as U
 use Rattle.utf8.specs.White.{white1, white2, white_at, leading_from, leading, trim_start, all_white, trim_end, trim}
@@ -26,7 +20,8 @@ use Rattle.yaml.specs.Scalars.{flow_out}
 use Rattle.literal.specs.Literal.{leaf, literal}
 use Rattle.lines.specs.Dash.{dashed}
 use Rattle.block.specs.Block.{key_at, starts_complex, line_value, child, block_key, value_behind, entry_at, map_turn, map_lines, entries_of, block_map, inline_map, item_behind, seq_turn, seq_lines, items_of, block_seq, within, block}
-use Rattle.block.proofs.Parts.{opens-dash, opens-key, opens-flow}
+use Rattle.scalar.specs.Code.{found_of}
+use Rattle.block.proofs.Parts.{opens_dash, opens_key, opens_flow}
 use Rattle.block.proofs.Cases.{within-levels, block-line, block-sequence, block-mapping, child-end, child-deeper, child-none, entry_whole, charged, item-child, item-line, item-inline}
 use Rattle.yaml.specs.Characters.{whites, spaces}
 use Rattle.yaml.specs.Represent.{Rep, as_yaml}
@@ -145,7 +140,7 @@ module _ (cap : ℕ) where
   block-flow m w b cs {t = t} d p k y e c num rest h l sum v g =
       let f : Front t = front_of d in
       let n : dashed t ≡ false = ap dashed (f.is ∙ sym (append-nil (f.byte ∷ f.rest))) ∙ f.no_dash [] in
-      rw (comments-none c (suc num)) (block-line cap l sum (line m t num ∷ rest) (line m t num) rest refl (opens-flow t n k) ∙ line_value_lem l num sum d p y e rest v g)
+      rw (comments-none c (suc num)) (block-line cap l sum (line m t num ∷ rest) (line m t num) rest refl (sym (opens_flow t n (ap found_of (sym k)))) ∙ line_value_lem l num sum d p y e rest v g)
 
   -- ---- keys
 
@@ -330,7 +325,7 @@ module _ (cap : ℕ) where
   pub block_map_lem : (n num : ℕ) (ls rest : List Line) (es : Entries) → MapOf n num ls rest es → (l sum : ℕ) → suc (levels es) ≤ l → sum + (6 + size es) ≤ cap
       → block cap l sum ls ≡ good (Tree.dict es, sum + (6 + size es), rest)
   block_map_lem n num ls rest es m l sum v g =
-      block-mapping cap l sum ls (line n m.text num) m.more m.is m.split (opens-key m.text m.no_dash m.split m.found) (λ z. omega arith)
+      block-mapping cap l sum ls (line n m.text num) m.more m.is m.split (sym (opens_key m.text m.no_dash m.split (ap found_of (sym m.found)))) (λ z. omega arith)
       ∙ map_whole (l - 1) n sum ls rest es (map-to n num ls rest es m) (omega arith) g
 
   -- the last entry, and one before others
@@ -455,7 +450,7 @@ module _ (cap : ℕ) where
   pub block_seq_lem : (m num : ℕ) (ls rest : List Line) (ys : Items) → SeqOf m num ls rest ys → (l sum : ℕ) → suc (levels ys) ≤ l → sum + (6 + size ys) ≤ cap
       → block cap l sum ls ≡ good (Tree.seq ys, sum + (6 + size ys), rest)
   block_seq_lem m num ls rest ys q l sum v g =
-      block-sequence cap l sum ls (line m q.text num) q.more q.is (opens-dash q.text q.dash) (λ z. omega arith)
+      block-sequence cap l sum ls (line m q.text num) q.more q.is (sym (opens_dash q.text q.dash)) (λ z. omega arith)
       ∙ seq-whole (l - 1) m sum ls rest ys q.to (omega arith) g
 
   -- ---- items

@@ -1,15 +1,9 @@
 -- The core schema's regular expressions against the definitions of the crate `scalar`: plain scalars resolve alike. Assumes nothing.
 use Rattle.std.specs.Prelude.{if◌then◌else◌}
-use mathlib.Core.Path.{◌≡◌, refl, sym, ◌∙◌, subst}
-use mathlib.Core.Logic.{⊎_elim}
-use Prim.Native.Nat.{ℕ, zero, suc, ◌+◌, ◌*◌, ◌-◌, ◌^◌, ◌≤◌}
-use native.Mathlib.Omega.{arith}
-use mathlib.Core.List.{List, [], ◌∷◌}
-use mathlib.Core.Bool.{Bool, true, false, ◌&&◌, ◌||◌, not, true≢false, or-true, or-false, or_comm, and-or_distrib_right}
-use mathlib.Core.Option.{none, some, none-ne-some}
-use lib.Dec.{eqb, leb}
-use lib.IntN.{ℤ, pos, neg_ℤ}
-use borrow.Author.Tests.{eqb-true, eqb-false, ne_eqb, le-leb, lt-leb, leb-true, ltb-true}
+use Rattle.std.proofs.Common.{◌≡◌, refl, sym, ◌∙◌, subst, ⊎_elim, ℕ, zero, suc, ◌+◌, ◌*◌, ◌-◌, ◌^◌, ◌≤◌, arith, List, [], ◌∷◌, Bool, true, false, ◌&&◌, ◌||◌, not, true≢false, eqb, leb, ℤ, pos, neg_ℤ, eqb-true, ne_eqb, le-leb, leb-true, ltb-true}
+use Rattle.std.proofs.lemmas.Bool.{eqb-false, lt-leb}
+use Rattle.std.proofs.Math.Bool.{or-true, or-false, or_comm, and-or_distrib_right}
+use Rattle.std.proofs.Math.Option.{none, some, none-ne-some}
 use Rattle.refusal.specs.Base.{ch, bytes, same, one_of, empty}
 use Rattle.utf8.specs.Utf8.{Range, ◌‥◌, within}
 use Rattle.utf8.proofs.Ranges.{if-both, if-one, in-range, inside}

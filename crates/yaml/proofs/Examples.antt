@@ -1,14 +1,7 @@
 -- Texts that the grammar has and that document 01 keeps, with their trees; and texts that the grammar does not have. The terms of the first
 -- are written by compare/grammar. Assumes nothing.
-use mathlib.Core.Path.{◌≡◌, refl, subst}
-use Prim.Native.Nat.{ℕ}
-use native.Mathlib.Omega.{arith}
-use mathlib.Core.List.{List, [], ◌∷◌}
-use mathlib.Core.Bool.{Bool, true, false, not}
-use mathlib.Core.Option.{Option, some, none}
-use lib.Dec.{T}
-use lib.ListN.{take, drop}
-use lib.IntN.{pos, negsuc}
+use Rattle.std.proofs.Common.{◌≡◌, refl, subst, ℕ, arith, List, [], ◌∷◌, Bool, true, false, not, T, take, drop, pos, negsuc}
+use Rattle.std.proofs.Math.Option.{Option, some, none}
 use Rattle.refusal.specs.Base.{bytes}
 use Rattle.refusal.proofs.Open.{Base-open}
 use Rattle.utf8.proofs.Open.{Utf8-open, Points-open}

@@ -1,13 +1,6 @@
 -- Flow nodes of the grammar that document 01 keeps are read as YAML reads them: one induction over derivations. Assumes nothing.
-use mathlib.Core.Path.{◌≡◌, refl, sym, ap, ◌∙◌, subst}
-use Prim.Native.Nat.{ℕ, zero, suc, ◌+◌, ◌≤◌, ◌<◌}
-use native.Mathlib.Omega.{arith}
-use mathlib.Core.List.{List, [], ◌∷◌, ◌++◌, append_assoc, append-nil}
-use mathlib.Core.Bool.{true, false}
-use mathlib.Core.Option.{none, some}
-use lib.Dec.{T, eqb}
-use lib.ListN.{length, length-append}
-use borrow.Author.Tests.{le-leb}
+use Rattle.std.proofs.Common.{◌≡◌, refl, sym, ap, ◌∙◌, subst, ℕ, zero, suc, ◌+◌, ◌≤◌, ◌<◌, arith, List, [], ◌∷◌, ◌++◌, append_assoc, append-nil, true, false, T, eqb, length, length-append, le-leb}
+use Rattle.std.proofs.Math.Option.{none, some}
 use Rattle.refusal.specs.Base.{good, ◌>>=◌, ◌>>◌, ensure, maybe, bytes, empty}
 use Rattle.utf8.specs.White.{trim}
 use Rattle.item.specs.Tree.{many, keyed, Yaml, null, seq, dict, Items, end, ◌▸◌, ◌◂◌, Entries, done, pair, add, has_key, levels}

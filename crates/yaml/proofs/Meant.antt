@@ -1,11 +1,6 @@
 -- A scenario that is YAML means what section 4 of document 01 makes of YAML's tree (`Means`), and what that says of the main job. Assumes nothing.
-use mathlib.Core.Path.{◌≡◌, refl, ap, ◌∙◌}
-use Prim.Native.Nat.{ℕ, suc, ◌≤◌, min, ◌^◌}
-use mathlib.Core.List.{List, [], ◌++◌}
-use mathlib.Core.Option.{Option, none, some}
-use lib.ListN.{length, drop}
-use borrow.Author.Tests.{le-leb}
-use mathlib.Core.Bool.{Bool, true, false, not}
+use Rattle.std.proofs.Common.{◌≡◌, refl, ap, ◌∙◌, ℕ, suc, ◌≤◌, min, ◌^◌, List, [], ◌++◌, length, drop, le-leb, Bool, true, false, not}
+use Rattle.std.proofs.Math.Option.{Option, none, some}
 use Rattle.refusal.specs.Base.{Answer, good, ◌>>=◌, ◌>>◌, ensure, one_of}
 use Rattle.refusal.proofs.Tools.{refused≢good, bound}
 use Rattle.item.specs.Tree.{Yaml, Items, end, ◌▸◌, Entries}

@@ -1,9 +1,5 @@
 -- Kept's conditions on the rows of block nodes hold of ordinary rows: `k: v`, `k:`, `k: |` and `- v`, with a comment or without. Assumes nothing.
-use mathlib.Core.Path.{◌≡◌, refl}
-use Prim.Native.Nat.{ℕ}
-use mathlib.Core.List.{List, [], ◌∷◌, ◌++◌, append_assoc}
-use mathlib.Core.Bool.{Bool, true, false, ◌||◌, not}
-use lib.Dec.{T, eqb, ltb, ltb→lt}
+use Rattle.std.proofs.Common.{◌≡◌, refl, ℕ, List, [], ◌∷◌, ◌++◌, append_assoc, Bool, true, false, ◌||◌, not, T, eqb, ltb, ltb→lt}
 use Rattle.refusal.specs.Base.{ch, bytes, empty}
 use Rattle.refusal.proofs.Open.{Base-open}
 use Rattle.utf8.proofs.Open.{Utf8-open, White-open}

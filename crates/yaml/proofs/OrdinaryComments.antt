@@ -1,11 +1,6 @@
 -- Kept's condition on comments holds of ordinary texts: a comment behind a quiet text, and no more, is cut. Assumes nothing.
 use Rattle.std.specs.Prelude.{if◌then◌else◌}
-use mathlib.Core.Path.{◌≡◌, refl, sym, ap, ◌∙◌}
-use mathlib.Core.Logic.{◌⊎◌, inl, inr, ⊎_elim}
-use Prim.Native.Nat.{ℕ}
-use mathlib.Core.List.{List, [], ◌∷◌, ◌++◌, append_assoc}
-use mathlib.Core.Bool.{Bool, true, false, ◌&&◌, not}
-use lib.Dec.{T, eqb, eqb→eq}
+use Rattle.std.proofs.Common.{◌≡◌, refl, sym, ap, ◌∙◌, ◌⊎◌, inl, inr, ⊎_elim, ℕ, List, [], ◌∷◌, ◌++◌, append_assoc, Bool, true, false, ◌&&◌, not, T, eqb, eqb→eq}
 use Rattle.refusal.specs.Base.{bytes}
 use Rattle.utf8.specs.White.{trim_end}
 use Rattle.lines.specs.Lines.{after_plain, place_after, starts_comment, uncommented, strip_comment}

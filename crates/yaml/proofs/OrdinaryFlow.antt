@@ -1,12 +1,6 @@
 -- Flow collections of ordinary scalars are ordinary: no key ends in one, and a comment can follow it. Assumes nothing.
-use mathlib.Core.Path.{◌≡◌, refl}
-use mathlib.Core.Logic.{◌⊎◌, inl, inr, ⊎_elim}
-use Prim.Native.Nat.{ℕ, zero, suc}
-use native.Mathlib.Omega.{arith}
-use mathlib.Core.List.{List, [], ◌∷◌, ◌++◌}
-use mathlib.Core.Bool.{false, ◌&&◌, ◌||◌, not, and-false}
-use lib.Dec.{T, eqb, eqb→eq}
-use borrow.Author.Tests.{ne_eqb}
+use Rattle.std.proofs.Common.{◌≡◌, refl, ◌⊎◌, inl, inr, ⊎_elim, ℕ, zero, suc, arith, List, [], ◌∷◌, ◌++◌, false, ◌&&◌, ◌||◌, not, T, eqb, eqb→eq, ne_eqb}
+use Rattle.std.proofs.Math.Bool.{and-false}
 use Rattle.refusal.specs.Base.{ch, bytes}
 use Rattle.item.specs.Tree.{many, keyed}
 use Rattle.scalar.specs.Key.{quote_after, opens, closes, depth_after, qualifies}

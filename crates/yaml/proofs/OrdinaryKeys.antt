@@ -1,14 +1,8 @@
 -- Kept's conditions on keys hold of ordinary texts: a plain or quoted text has no end of a key in it, and as a key it is found. Assumes nothing.
 use Rattle.std.specs.Prelude.{if◌then◌else◌}
-use mathlib.Core.Path.{◌≡◌, refl, ap, ◌∙◌}
-use mathlib.Core.Logic.{◌⊎◌, inl, inr, ⊎_elim}
-use Prim.Native.Nat.{ℕ, suc, ◌+◌, ◌-◌}
-use native.Mathlib.Omega.{arith}
-use mathlib.Core.List.{List, [], ◌∷◌, ◌++◌, append_assoc, append-nil}
-use mathlib.Core.Bool.{Bool, true, false, ◌&&◌, ◌||◌, not, and-false}
-use mathlib.Core.Option.{none, some}
-use lib.Dec.{T, eqb, eqb→eq}
-use lib.ListN.{length, length-append}
+use Rattle.std.proofs.Common.{◌≡◌, refl, ap, ◌∙◌, ◌⊎◌, inl, inr, ⊎_elim, ℕ, suc, ◌+◌, ◌-◌, arith, List, [], ◌∷◌, ◌++◌, append_assoc, append-nil, Bool, true, false, ◌&&◌, ◌||◌, not, T, eqb, eqb→eq, length, length-append}
+use Rattle.std.proofs.Math.Bool.{and-false}
+use Rattle.std.proofs.Math.Option.{none, some}
 use Rattle.refusal.specs.Base.{ch, bytes}
 use Rattle.scalar.specs.Key.{quote_after, opens, closes, last_or_space, depth_after, qualifies, key_end_from, key_end}
 use Rattle.yaml.specs.Characters.{white, whites, ns_char, nb_char, indicators, flow_indicators, among}

@@ -1,14 +1,8 @@
 -- What the reader trims of ordinary texts: white space behind them, and nothing of themselves. Assumes nothing.
-use mathlib.Core.Path.{◌≡◌, refl, sym, ap, ◌∙◌}
-use mathlib.Core.Logic.{⊎_elim}
-use Prim.Native.Nat.{ℕ, zero, suc, ◌≤◌, ◌<◌}
-use native.Mathlib.Omega.{arith}
-use mathlib.Core.List.{List, [], ◌∷◌, ◌++◌, append_assoc, append-nil}
-use mathlib.Core.Bool.{false, not, and-false}
-use mathlib.Core.Option.{Option, none, some}
-use lib.Dec.{T, ltb, ltb→lt}
-use lib.ListN.{length, drop}
-use borrow.Author.Tests.{ne_eqb, lt-leb}
+use Rattle.std.proofs.Common.{◌≡◌, refl, sym, ap, ◌∙◌, ⊎_elim, ℕ, zero, suc, ◌≤◌, ◌<◌, arith, List, [], ◌∷◌, ◌++◌, append_assoc, append-nil, false, not, T, ltb, ltb→lt, length, drop, ne_eqb}
+use Rattle.std.proofs.lemmas.Bool.{lt-leb}
+use Rattle.std.proofs.Math.Bool.{and-false}
+use Rattle.std.proofs.Math.Option.{Option, none, some}
 use Rattle.refusal.specs.Base.{maybe, empty}
 use Rattle.utf8.specs.Utf8.{◌‥◌, within}
 use Rattle.utf8.proofs.Ranges.{above}

@@ -1,11 +1,7 @@
 -- The steps between a text and its tree, each as what is proved of the reader against the grammar. Assumes nothing.
 use Rattle.std.specs.Prelude.{if◌then◌else◌}
-use mathlib.Core.Path.{◌≡◌}
-use Prim.Native.Nat.{ℕ, suc, ◌+◌, ◌≤◌, ◌<◌}
-use mathlib.Core.List.{List, [], ◌∷◌, ◌++◌}
-use mathlib.Core.Bool.{Bool, true, false}
-use mathlib.Core.Option.{Option, some}
-use lib.ListN.{length, drop}
+use Rattle.std.proofs.Common.{◌≡◌, ℕ, suc, ◌+◌, ◌≤◌, ◌<◌, List, [], ◌∷◌, ◌++◌, Bool, true, false, length, drop}
+use Rattle.std.proofs.Math.Option.{Option, some}
 use Rattle.refusal.specs.Base.{good, empty}
 use Rattle.item.specs.Tree.{Yaml, levels}
 use Rattle.item.specs.Tree as Tree

@@ -1,11 +1,5 @@
 -- Plain text: how it begins, and how far the reader runs in it. Assumes nothing.
-use mathlib.Core.Path.{◌≡◌, refl, ap}
-use mathlib.Core.Logic.{⊎_elim}
-use Prim.Native.Nat.{ℕ, zero, suc}
-use mathlib.Core.List.{List, [], ◌∷◌, ◌++◌}
-use mathlib.Core.Bool.{true, false, ◌&&◌, ◌||◌, not}
-use lib.Dec.{T, eqb, eqb→eq}
-use lib.ListN.{replicate}
+use Rattle.std.proofs.Common.{◌≡◌, refl, ap, ⊎_elim, ℕ, zero, suc, List, [], ◌∷◌, ◌++◌, true, false, ◌&&◌, ◌||◌, not, T, eqb, eqb→eq, replicate}
 use Rattle.refusal.specs.Base.{ch, bytes}
 use Rattle.scalar.specs.Read.{plain_text, onto, ends_item, ends_colon, stops_plain}
 use Rattle.yaml.specs.Characters.{ns_char, among, indicators, flow_indicators}

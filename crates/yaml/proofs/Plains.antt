@@ -1,11 +1,6 @@
 -- Plain texts by a test that computes, and one name for all definitions that a derivation of a given text unfolds. Assumes nothing.
 use Rattle.std.specs.Prelude.{if◌then◌else◌}
-use mathlib.Core.Path.{◌≡◌, refl, sym, subst}
-use Prim.Native.Nat.{ℕ}
-use mathlib.Core.List.{List, [], ◌∷◌}
-use mathlib.Core.Bool.{Bool, true, false, ◌&&◌, ◌||◌, not}
-use lib.Dec.{T, eqb}
-use borrow.Author.Tests.{eqb-true}
+use Rattle.std.proofs.Common.{◌≡◌, refl, sym, subst, ℕ, List, [], ◌∷◌, Bool, true, false, ◌&&◌, ◌||◌, not, T, eqb, eqb-true}
 use Rattle.refusal.specs.Base.{ch, empty}
 use Rattle.refusal.proofs.Open.{Base-open}
 use Rattle.yaml.specs.Scalars.{Context, plain_first, plain_char, PlainRest, p_end, p_char, p_space, p_tab, Plain, plain}

@@ -1,12 +1,6 @@
 -- examples/kinds.yaml, each kind of value, each way of writing it: it is YAML, and document 01 keeps it. The terms are written by compare/grammar. Assumes nothing.
-use mathlib.Core.Path.{◌≡◌, refl}
-use Prim.Native.Nat.{ℕ}
-use native.Mathlib.Omega.{arith}
-use mathlib.Core.List.{List, [], ◌∷◌}
-use mathlib.Core.Bool.{true, false}
-use mathlib.Core.Option.{Option, some}
-use lib.ListN.{take, drop}
-use lib.IntN.{pos, negsuc}
+use Rattle.std.proofs.Common.{◌≡◌, refl, ℕ, arith, List, [], ◌∷◌, true, false, take, drop, pos, negsuc}
+use Rattle.std.proofs.Math.Option.{Option, some}
 use Rattle.refusal.specs.Base.{bytes}
 use Rattle.item.specs.Tree as Tree
 use Rattle.yaml.specs.Scalars.{flow_out, flow_in, d_end, d_char, d_escaped, esc_t, esc_quote, s_end, s_char, s_twice}

@@ -1,11 +1,6 @@
 -- examples/rounds.yaml, change ringing: it is YAML, and document 01 keeps it. The terms are written by compare/grammar. Assumes nothing.
-use mathlib.Core.Path.{◌≡◌, refl}
-use Prim.Native.Nat.{ℕ}
-use native.Mathlib.Omega.{arith}
-use mathlib.Core.List.{List, [], ◌∷◌}
-use mathlib.Core.Option.{Option, some}
-use lib.ListN.{take, drop}
-use lib.IntN.{pos}
+use Rattle.std.proofs.Common.{◌≡◌, refl, ℕ, arith, List, [], ◌∷◌, take, drop, pos}
+use Rattle.std.proofs.Math.Option.{Option, some}
 use Rattle.refusal.specs.Base.{bytes}
 use Rattle.item.specs.Tree as Tree
 use Rattle.yaml.specs.Scalars.{flow_out, flow_in}

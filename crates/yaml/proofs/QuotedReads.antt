@@ -1,10 +1,6 @@
 -- Quoted texts of the grammar are read as what they stand for. Assumes nothing.
-use mathlib.Core.Path.{◌≡◌, refl}
-use Prim.Native.Nat.{ℕ}
-use mathlib.Core.List.{List, [], ◌∷◌, ◌++◌}
-use mathlib.Core.Bool.{true, false, ◌&&◌, not}
-use mathlib.Core.Option.{some}
-use lib.Dec.{eqb}
+use Rattle.std.proofs.Common.{◌≡◌, refl, ℕ, List, [], ◌∷◌, ◌++◌, true, false, ◌&&◌, not, eqb}
+use Rattle.std.proofs.Math.Option.{some}
 use Rattle.refusal.specs.Base.{good, ch}
 use Rattle.scalar.specs.Read.{double_quoted, single_quoted, escape}
 use Rattle.yaml.specs.Characters.{nb_char}

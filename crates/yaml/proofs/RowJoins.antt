@@ -1,7 +1,5 @@
 -- The entries of rows that follow one another, and the first entry of a block node. Assumes nothing.
-use mathlib.Core.Path.{◌≡◌, refl, sym, ap, ◌∙◌, subst}
-use Prim.Native.Nat.{ℕ, suc, ◌+◌}
-use mathlib.Core.List.{List, [], ◌∷◌, ◌++◌, append_assoc, append-nil}
+use Rattle.std.proofs.Common.{◌≡◌, refl, sym, ap, ◌∙◌, subst, ℕ, suc, ◌+◌, List, [], ◌∷◌, ◌++◌, append_assoc, append-nil}
 use Rattle.refusal.specs.Base.{ch}
 use Rattle.item.specs.Tree.{many, keyed}
 use Rattle.lines.specs.Lines.{Line, line}

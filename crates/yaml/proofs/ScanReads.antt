@@ -1,15 +1,9 @@
 -- Section 1 of document 01 finds the entries of the rows (`Scans`). Assumes nothing.
 use Rattle.std.specs.Prelude.{if◌then◌else◌}
-use mathlib.Core.Path.{◌≡◌, refl, sym, ap, ◌∙◌}
-use mathlib.Core.Logic.{⊎_elim}
-use Prim.Native.Nat.{ℕ, zero, suc, ◌+◌, ◌-◌, ◌≤◌, ◌<◌}
-use native.Mathlib.Omega.{arith}
-use mathlib.Core.List.{List, [], ◌∷◌, ◌++◌, append_assoc}
-use mathlib.Core.Bool.{Bool, true, false, ◌&&◌, not, true≢false, and-false}
-use mathlib.Core.Option.{Option, none, some, none-ne-some}
-use lib.Dec.{T, eqb, ltb}
-use lib.ListN.{length, drop, length-drop}
-use borrow.Author.Tests.{eqb-true, ne_eqb, lt-ltb, le-ltb, lt-leb}
+use Rattle.std.proofs.Common.{◌≡◌, refl, sym, ap, ◌∙◌, ⊎_elim, ℕ, zero, suc, ◌+◌, ◌-◌, ◌≤◌, ◌<◌, arith, List, [], ◌∷◌, ◌++◌, append_assoc, Bool, true, false, ◌&&◌, not, true≢false, T, eqb, ltb, length, drop, length-drop, eqb-true, ne_eqb, lt-ltb, le-ltb}
+use Rattle.std.proofs.lemmas.Bool.{lt-leb}
+use Rattle.std.proofs.Math.Bool.{and-false}
+use Rattle.std.proofs.Math.Option.{Option, none, some, none-ne-some}
 use Rattle.refusal.specs.Base.{maybe, ch, bytes, same, empty, ends_with}
 use Rattle.item.specs.Tree.{many, keyed}
 use Rattle.utf8.specs.Utf8.{within}

@@ -1,14 +1,7 @@
 -- The lines of a text are the rows of its derivation (`Splits`). Assumes nothing.
 use Rattle.std.specs.Prelude.{if◌then◌else◌}
-use mathlib.Core.Path.{◌≡◌, refl, sym, ap, ◌∙◌, subst}
-use mathlib.Core.Logic.{⊎_elim}
-use Prim.Native.Nat.{ℕ, zero, suc, ◌<◌}
-use native.Mathlib.Omega.{arith}
-use mathlib.Core.List.{List, [], ◌∷◌, ◌++◌, append-nil}
-use mathlib.Core.Bool.{Bool, true, false, ◌&&◌, ◌||◌, not}
-use mathlib.Core.Option.{Option}
-use lib.Dec.{T, eqb, leb, ltb, eqb→eq, ltb→lt}
-use borrow.Author.Tests.{eqb-true, le-leb}
+use Rattle.std.proofs.Common.{◌≡◌, refl, sym, ap, ◌∙◌, subst, ⊎_elim, ℕ, zero, suc, ◌<◌, arith, List, [], ◌∷◌, ◌++◌, append-nil, Bool, true, false, ◌&&◌, ◌||◌, not, T, eqb, leb, ltb, eqb→eq, ltb→lt, eqb-true, le-leb}
+use Rattle.std.proofs.Math.Option.{Option}
 use Rattle.refusal.specs.Base.{ch, bytes, empty}
 use Rattle.item.specs.Tree.{many, keyed}
 use Rattle.lines.specs.Lines.{begins_newline, prepend, split_lines}

@@ -1,11 +1,5 @@
 -- Laws of tests, and of bytes that are or are not in a list. Assumes nothing.
-use mathlib.Core.Path.{◌≡◌, refl, sym, ap, ◌∙◌, subst}
-use mathlib.Core.Logic.{◌⊎◌, inl, inr}
-use Prim.Native.Nat.{ℕ}
-use mathlib.Core.List.{List, [], ◌∷◌}
-use mathlib.Core.Bool.{Bool, true, false, ◌&&◌, ◌||◌, not, true≢false}
-use lib.Dec.{T, eqb}
-use borrow.Author.Tests.{eqb-true, ne_eqb}
+use Rattle.std.proofs.Common.{◌≡◌, refl, sym, ap, ◌∙◌, subst, ◌⊎◌, inl, inr, ℕ, List, [], ◌∷◌, Bool, true, false, ◌&&◌, ◌||◌, not, true≢false, T, eqb, eqb-true, ne_eqb}
 use Rattle.yaml.specs.Characters.{among}
 
 pub is_true : (b : Bool) → T b → b ≡ true

@@ -1,11 +1,7 @@
 -- `as_yaml` turned back: the parts of a representation that has a tree have trees. And trees that have a text, as keys do. Assumes nothing.
 use Rattle.std.specs.Prelude.{if◌then◌else◌}
-use mathlib.Core.Path.{◌≡◌, refl}
-use Prim.Native.Nat.{ℕ, ◌+◌}
-use mathlib.Core.List.{List}
-use mathlib.Core.Bool.{Bool, true, false}
-use mathlib.Core.Option.{Option, none, some, none-ne-some, some-injective}
-use lib.ListN.{length}
+use Rattle.std.proofs.Common.{◌≡◌, refl, ℕ, ◌+◌, List, Bool, true, false, length}
+use Rattle.std.proofs.Math.Option.{Option, none, some, none-ne-some, some-injective}
 use Rattle.refusal.specs.Base.{maybe, given}
 use Rattle.item.specs.Tree.{keyed, Yaml, Entries, has_key, levels}
 use Rattle.item.specs.Tree as Tree

@@ -1,10 +1,5 @@
 -- White space within a line, [33] and [66]: it is spaces and tabs, and the reader trims it. Assumes nothing.
-use mathlib.Core.Path.{◌≡◌, refl, sym, ap, ◌∙◌, subst}
-use mathlib.Core.Logic.{⊎_elim}
-use Prim.Native.Nat.{ℕ, zero, suc}
-use native.Mathlib.Omega.{arith}
-use mathlib.Core.List.{List, [], ◌∷◌, ◌++◌, append_assoc, append-nil}
-use lib.Dec.{T, eqb, eqb→eq}
+use Rattle.std.proofs.Common.{◌≡◌, refl, sym, ap, ◌∙◌, subst, ⊎_elim, ℕ, zero, suc, arith, List, [], ◌∷◌, ◌++◌, append_assoc, append-nil, T, eqb, eqb→eq}
 use Rattle.refusal.specs.Base.{maybe, ch}
 use Rattle.utf8.specs.Utf8.{within}
 use Rattle.utf8.specs.White.{white1, white_at, white_len, trim_start, trim}

@@ -1,15 +1,8 @@
 -- The whole: a text that is YAML, that document 01 keeps, and that is within the limits is read as YAML reads it (`Reads`). What it says of
 -- the job, and that no text has two trees. Assumes nothing.
-use mathlib.Core.Path.{◌≡◌, refl, sym, ap, ◌∙◌, subst}
-use Prim.Native.Nat.{ℕ, zero, suc, ◌+◌, ◌≤◌, min, ◌^◌}
-use native.Mathlib.Omega.{arith}
-use mathlib.Core.List.{List, [], ◌∷◌, ◌++◌, append-nil}
-use mathlib.Core.Bool.{true, false≢true}
-use mathlib.Core.Option.{Option, some}
-use lib.Dec.{T, leb}
-use lib.ListN.{length, take, drop}
-use lib.Seq.{take_at}
-use borrow.Author.Tests.{leb-true, le-leb}
+use Rattle.std.proofs.Common.{◌≡◌, refl, sym, ap, ◌∙◌, subst, ℕ, zero, suc, ◌+◌, ◌≤◌, min, ◌^◌, arith, List, [], ◌∷◌, ◌++◌, append-nil, true, T, leb, length, take, drop, take_at, leb-true, le-leb}
+use Rattle.std.proofs.lemmas.Bool.{false≢true}
+use Rattle.std.proofs.Math.Option.{Option, some}
 use Rattle.refusal.specs.Base.{Answer, good, ◌>>=◌, ◌>>◌, ensure}
 use Rattle.refusal.proofs.Tools.{good-inj}
 use Rattle.utf8.specs.Utf8.{Range, ◌‥◌, within, is_utf8}

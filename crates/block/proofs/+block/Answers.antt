@@ -1,26 +1,22 @@
-use mathlib.Core.Path.{refl, sym, ◌∙◌, ap, ◌≡◌}
-use mathlib.Core.Bool.{true, false}
-use Prim.Native.Nat.{ℕ, ◌+◌, ◌<◌}
-use native.Mathlib.Omega.{arith}
-use lib.ListN.{length, drop, length-append}
-use lib.Seq.{length-take-le}
+use Rattle.std.proofs.Common.{refl, sym, ◌∙◌, ap, ◌≡◌, true, false, ℕ, ◌+◌, ◌<◌, arith, length, drop, length-append, length-take-le}
 use Rattle.std.proofs.lemmas.Result.{err_from_is_err_and}
 use Rattle.item.specs.Encode.{item, encode}
 use Rattle.item.proofs.Size.{item-length}
 use Rattle.writer.specs.Writing.{cap_of}
 use Rattle.writer.proofs.Laws.{len_appended}
 use Rattle.lines.specs.Table.{line_at}
-use Rattle.lines.proofs.Rows.{lines_end, lines_next}
+use Rattle.lines.proofs.Rows.{lines_end}
 use Rattle.flow.proofs.Invariants.{lies_in_front}
-use Rattle.block.proofs.Cases.{agrees-block, wrote-block, refuses-as, entries-as, wrote-entry, block-end, child-end}
-use Rattle.block.proofs.Places.{key-first, block-line-at, sequence-deep-at, block-sequence-at, mapping-deep-at, block-mapping-at, child-deeper-at, child-none-at, key-there, key-splits, entry-as, entry-unkeyed-at, entry-unvalued-at, entry-done-at, value-nothing-at, value-literal-at, value-stripped-at, value-line-at, item-child-at, item-line-at, item-splits, item-deep-at, item-inline-at, dash-there, dash-text}
-use Rattle.block.specs.Block.{entries_of, within, item_behind}
+use Rattle.block.proofs.Cases.{agrees-block, block-end, child-end}
+use Rattle.block.proofs.Places.{key-first, block-line-at, sequence-deep-at, block-sequence-at, mapping-deep-at, block-mapping-at, child-deeper-at, child-none-at, entry-unkeyed-at, entry-unvalued-at, entry-done-at, value-nothing-at, value-literal-at, value-stripped-at, value-line-at, item-child-at, item-line-at, item-splits, item-deep-at, item-inline-at}
+use Rattle.block.specs.Block.{entries_of, within}
 use Rattle.block.proofs.Judging.{ran-once, ran-again, ran-keeps}
 use Rattle.block.specs.Contract.{key_here, column_at, text_at}
 use Rattle.block.proofs.Parts.{found_at, found_nothing}
-use Rattle.block.proofs.Invariants.{mapped-start, mapped_end, mapped_all, map-stops, map-cut, map-twice, map_on, out-long, inline-full, inline-stops, inline-later, inline-twice, inline-close, map-full, map-refused, map-close, listed_start, list_full, list_close, list-stops, list_on, sout-long}
-use Rattle.utf8.specs.White.{trim_start}
+use Rattle.block.proofs.Invariants.{mapped-start, mapped_end, mapped_all, inline-full, inline-stops, inline-later, inline-twice, inline-close, map-full, map-refused, map-close, listed_start, list_full, list_close}
 use Rattle.scalar.specs.Key.{key_end}
+use Rattle.entries.proofs.Parts.{in_part}
+use Rattle.block.proofs.Turns.{key_in_part, turn-splits, turn-stops, turn-cut, turn-twice, turn_on, item-text, item-stops, item_on}
 use Rattle.block.proofs.+block.Goals as goal
 
 pub block-returns-then-i-len : goal.block-returns-then-i-len
@@ -132,7 +128,7 @@ entries-returns-then-repeats t c =
     let run = c.all_entries-end in
     let m = run.new.writer in
     let v = run.ensures in
-    let j = c.repeats.ensures v.0.got (rw (c.used-start.ensures, c.used.ensures, c.bytes.ensures) (lies_in_front m.out.now w.used m.used v.0.got m.within v.1)) in
+    let j = c.repeats.ensures v.0.got (in_part v.0.got c.part.ensures.bytes c.part.ensures.places (rw (c.used-start.ensures, c.used.ensures, c.written.ensures) (lies_in_front m.out.now w.used m.used v.0.got m.within v.1))) in
     let q = c.truncate.new.self in
     let cut = c.truncate.ensures in
     let k = ran-keeps {a = whole} v.0 in
@@ -149,7 +145,7 @@ entries-returns t c =
     let run = c.all_entries-end in
     let m = run.new.writer in
     let v = run.ensures in
-    let j = c.repeats.ensures v.0.got (rw (c.used-start.ensures, c.used.ensures, c.bytes.ensures) (lies_in_front m.out.now w.used m.used v.0.got m.within v.1)) in
+    let j = c.repeats.ensures v.0.got (in_part v.0.got c.part.ensures.bytes c.part.ensures.places (rw (c.used-start.ensures, c.used.ensures, c.written.ensures) (lies_in_front m.out.now w.used m.used v.0.got m.within v.1))) in
     ran-once {a = whole} v.0 (sym j ∙ c.if-repeats.false)
 
 pub all_entries-loop-key-init : goal.all_entries-loop-key-init
@@ -161,44 +157,24 @@ all_entries-loop-key-init t c =
 
 pub all_entries-entry-requires : goal.all_entries-entry-requires
 all_entries-entry-requires t c =
-    let a = c.args in
-    let ls = a.lines.now in
     let l = c.loop-key in
-    let k = found_at (key_here a.indent (drop l.i ls)) c.in-At.split (sym c.in-At.is ∙ l.invariant.1) in
-    let h = key-there ls l.i a.indent c.in-At.split l.invariant.0.within' k in
-    (omega arith, (h, key-splits ls l.i h a.indent c.in-At.split k))
+    (omega arith, turn-splits l.invariant.0 c.in-At.split (sym c.in-At.is ∙ l.invariant.1))
 
 pub all_entries-returns-in-Err : goal.all_entries-returns-in-Err
 all_entries-returns-in-Err t c =
-    let a = c.args in
-    let ls = a.lines.now in
-    let w = a.writer.now in
-    let cap = cap_of w in
     let l = c.loop-key in
-    let k = found_at (key_here a.indent (drop l.i ls)) c.in-At.split (sym c.in-At.is ∙ l.invariant.1) in
-    let h = key-there ls l.i a.indent c.in-At.split l.invariant.0.within' k in
-    map-cut ls a.first a.indent a.levels false w l.writer l.i l.invariant.0 (line_at ls l.i) (drop (l.i + 1) ls) (lines_next ls l.i h) c.in-At.split k c.entry.new.writer _ _ (refuses-as _ _ l.writer _ _ (entry-as ls l.i h a.indent c.in-At.split k (cap_of l.writer) cap a.levels l.writer.used (out-long ls a.first a.indent a.levels false w l.writer l.i l.invariant.0)) c.in-Err.ensures) (rw c.used-before.ensures at c.truncate.ensures)
+    turn-cut l.invariant.0 c.in-At.split (sym c.in-At.is ∙ l.invariant.1) c.in-Err.ensures (rw c.used-before.ensures at c.truncate.ensures)
 
 pub all_entries-loop-key-preserved : goal.all_entries-loop-key-preserved
 all_entries-loop-key-preserved t c =
-    let a = c.args in
-    let ls = a.lines.now in
-    let w = a.writer.now in
-    let cap = cap_of w in
     let l = c.loop-key in
-    let k = found_at (key_here a.indent (drop l.i ls)) c.in-At.split (sym c.in-At.is ∙ l.invariant.1) in
-    let h = key-there ls l.i a.indent c.in-At.split l.invariant.0.within' k in
-    let r = c.in-Ok.read in
-    let e = wrote-entry _ _ ls (l.i + 1) l.writer _ r.next r.key_end (entry-as ls l.i h a.indent c.in-At.split k (cap_of l.writer) cap a.levels l.writer.used (out-long ls a.first a.indent a.levels false w l.writer l.i l.invariant.0)) c.in-Ok.ensures in
-    (map_on ls a.first a.indent a.levels false w l.writer l.i l.invariant.0 (line_at ls l.i) (drop (l.i + 1) ls) (lines_next ls l.i h) c.in-At.split k _ r.next r.key_end e false (λ es q. refl) refl, c.key_at-key.ensures)
+    (turn_on l.invariant.0 c.in-At.split (sym c.in-At.is ∙ l.invariant.1) c.in-Ok.ensures false (λ es q. refl) refl, c.key_at-key.ensures)
 
 pub all_entries-returns : goal.all_entries-returns
 all_entries-returns t c =
     let a = c.args in
-    let ls = a.lines.now in
-    let w = a.writer.now in
     let l = c.loop-key in
-    mapped_all ls a.first a.indent a.levels false w l.writer l.i l.invariant.0 (found_nothing (key_here a.indent (drop l.i ls)) (sym c.in_default.is ∙ l.invariant.1))
+    mapped_all l.invariant.0 (found_nothing (key_here a.indent (drop l.i a.lines.now)) (sym c.in_default.is ∙ l.invariant.1))
 
 pub entries_once-loop-split-init : goal.entries_once-loop-split-init
 entries_once-loop-split-init t c =
@@ -209,70 +185,45 @@ entries_once-loop-split-init t c =
 
 pub entries_once-entry-requires : goal.entries_once-entry-requires
 entries_once-entry-requires t c =
-    let a = c.args in
-    let ls = a.lines.now in
     let l = c.loop-split in
-    let k = found_at (key_here a.indent (drop l.i ls)) c.in-At.split (sym c.in-At.is ∙ c.key_at.ensures) in
-    let h = key-there ls l.i a.indent c.in-At.split l.invariant.within' k in
-    (omega arith, (h, key-splits ls l.i h a.indent c.in-At.split k))
+    (omega arith, turn-splits l.invariant c.in-At.split (sym c.in-At.is ∙ c.key_at.ensures))
 
 pub entries_once-returns-in_err-read : goal.entries_once-returns-in_err-read
 entries_once-returns-in_err-read t c =
-    let a = c.args in
-    let ls = a.lines.now in
-    let w = a.writer.now in
-    let cap = cap_of w in
     let l = c.loop-split in
-    let k = found_at (key_here a.indent (drop l.i ls)) c.in-At.split (sym c.in-At.is ∙ c.key_at.ensures) in
-    let h = key-there ls l.i a.indent c.in-At.split l.invariant.within' k in
     let p = err_from_is_err_and c.from_residual.result c.from_residual.ensures.1 in
-    rw (p.1, p.2) (map-stops ls a.first a.indent a.levels true w l.writer l.i l.invariant (line_at ls l.i) (drop (l.i + 1) ls) (lines_next ls l.i h) c.in-At.split k _ _ (refuses-as _ _ l.writer _ _ (entry-as ls l.i h a.indent c.in-At.split k (cap_of l.writer) cap a.levels l.writer.used (out-long ls a.first a.indent a.levels true w l.writer l.i l.invariant)) c.in_err-read.ensures))
+    rw (p.1, p.2) (turn-stops l.invariant c.in-At.split (sym c.in-At.is ∙ c.key_at.ensures) c.in_err-read.ensures)
 
-pub entries_once-has_key-requires : goal.entries_once-has_key-requires
-entries_once-has_key-requires t c =
-    let a = c.args in
-    let ls = a.lines.now in
-    let l = c.loop-split in
-    let k = found_at (key_here a.indent (drop l.i ls)) c.in-At.split (sym c.in-At.is ∙ c.key_at.ensures) in
+pub entries_once-slice_bounds-has_key-end : goal.entries_once-slice_bounds-has_key-end
+entries_once-slice_bounds-has_key-end t c =
     let e = c.in_ok-read.ensures in
     let o = c.entry.new.writer in
-    let n : length c.bytes.result.now ≡ o.used = ap length c.bytes.ensures ∙ length-take-le o.used o.out.now o.within in
-    let m = length-append (item 3 e.key) (encode e.tree) in
-    (omega (arith, c.used-start.ensures, c.used-before.ensures, l.invariant.appends.used), omega (arith, c.used-before.ensures, n, e.appends.used), omega (arith, c.used-before.ensures, e.ends), omega (arith, n, e.appends.used, m, item-length 3 e.key, e.ends), omega (arith, n, o.within, o.counted))
+    let n : length c.written-written.result.bytes.now ≡ o.used = ap length c.written-written.ensures ∙ length-take-le o.used o.out.now o.within in
+    omega (arith, n, e.appends.used, length-append (item 3 e.key) (encode e.tree), item-length 3 e.key, e.ends)
 
 pub entries_once-returns-then-has_key : goal.entries_once-returns-then-has_key
 entries_once-returns-then-has_key t c =
-    let a = c.args in
-    let ls = a.lines.now in
-    let w = a.writer.now in
-    let cap = cap_of w in
     let l = c.loop-split in
-    let k = found_at (key_here a.indent (drop l.i ls)) c.in-At.split (sym c.in-At.is ∙ c.key_at.ensures) in
-    let h = key-there ls l.i a.indent c.in-At.split l.invariant.within' k in
-    let r = c.in_ok-read.read in
-    let e = wrote-entry _ _ ls (l.i + 1) l.writer _ r.next r.key_end (entry-as ls l.i h a.indent c.in-At.split k (cap_of l.writer) cap a.levels l.writer.used (out-long ls a.first a.indent a.levels true w l.writer l.i l.invariant)) c.in_ok-read.ensures in
-    map-twice ls a.first a.indent a.levels true w l.writer l.i l.invariant (line_at ls l.i) (drop (l.i + 1) ls) (lines_next ls l.i h) c.in-At.split k _ r.next r.key_end e c.has_key.result (rw (c.used-start.ensures, c.used-before.ensures, c.bytes.ensures) at c.has_key.ensures) c.if-has_key.true c.number-line.result c.number-line.ensures
+    let o = c.entry.new.writer in
+    let n : length c.written-written.result.bytes.now ≡ o.used = ap length c.written-written.ensures ∙ length-take-le o.used o.out.now o.within in
+    let h = key_in_part {to = c.used-before.result} _ c.part-earlier.ensures.bytes c.part-earlier.ensures.places (omega (arith, c.used-start.ensures, c.used-before.ensures, l.invariant.appends.used))
+    (omega (arith, c.used-before.ensures, n, c.in_ok-read.ensures.appends.used)) c.has_key.ensures in
+    turn-twice l.invariant c.in-At.split (sym c.in-At.is ∙ c.key_at.ensures) c.in_ok-read.ensures c.has_key.result (rw (c.used-start.ensures, c.used-before.ensures, c.written-written.ensures) at h) c.if-has_key.true c.number-line.result c.number-line.ensures
 
 pub entries_once-loop-split-preserved : goal.entries_once-loop-split-preserved
 entries_once-loop-split-preserved t c =
-    let a = c.args in
-    let ls = a.lines.now in
-    let w = a.writer.now in
-    let cap = cap_of w in
     let l = c.loop-split in
-    let k = found_at (key_here a.indent (drop l.i ls)) c.in-At.split (sym c.in-At.is ∙ c.key_at.ensures) in
-    let h = key-there ls l.i a.indent c.in-At.split l.invariant.within' k in
-    let r = c.in_ok-read.read in
-    let e = wrote-entry _ _ ls (l.i + 1) l.writer _ r.next r.key_end (entry-as ls l.i h a.indent c.in-At.split k (cap_of l.writer) cap a.levels l.writer.used (out-long ls a.first a.indent a.levels true w l.writer l.i l.invariant)) c.in_ok-read.ensures in
-    map_on ls a.first a.indent a.levels true w l.writer l.i l.invariant (line_at ls l.i) (drop (l.i + 1) ls) (lines_next ls l.i h) c.in-At.split k _ r.next r.key_end e c.has_key.result (rw (c.used-start.ensures, c.used-before.ensures, c.bytes.ensures) at c.has_key.ensures) c.if-has_key.false
+    let o = c.entry.new.writer in
+    let n : length c.written-written.result.bytes.now ≡ o.used = ap length c.written-written.ensures ∙ length-take-le o.used o.out.now o.within in
+    let h = key_in_part {to = c.used-before.result} _ c.part-earlier.ensures.bytes c.part-earlier.ensures.places (omega (arith, c.used-start.ensures, c.used-before.ensures, l.invariant.appends.used))
+    (omega (arith, c.used-before.ensures, n, c.in_ok-read.ensures.appends.used)) c.has_key.ensures in
+    turn_on l.invariant c.in-At.split (sym c.in-At.is ∙ c.key_at.ensures) c.in_ok-read.ensures c.has_key.result (rw (c.used-start.ensures, c.used-before.ensures, c.written-written.ensures) at h) c.if-has_key.false
 
 pub entries_once-returns : goal.entries_once-returns
 entries_once-returns t c =
     let a = c.args in
-    let ls = a.lines.now in
-    let w = a.writer.now in
     let l = c.loop-split in
-    mapped_end ls a.first a.indent a.levels true w l.writer l.i l.invariant (found_nothing (key_here a.indent (drop l.i ls)) (sym c.in_default.is ∙ c.key_at.ensures))
+    mapped_end l.invariant (found_nothing (key_here a.indent (drop l.i a.lines.now)) (sym c.in_default.is ∙ c.key_at.ensures))
 
 pub entry-returns-in_err-block_key : goal.entry-returns-in_err-block_key
 entry-returns-in_err-block_key t c =
@@ -377,17 +328,14 @@ inline_mapping-returns-in_err-next t c =
     let w = a.writer.now in
     let x = line_at ls a.i in
     let p = err_from_is_err_and c.from_residual-in_err-next.result c.from_residual-in_err-next.ensures.1 in
-    rw (p.1, p.2) (inline-later w _ _ c.in_ok-header.ensures a.levels x.number (column_at x a.from) (text_at x a.from) a.split (drop (a.i + 1) ls) ls (a.i + 1) _ _ _ c.in_ok-first.ensures _ _ (refuses-as _ _ _ _ _ (entries-as (cap_of c.entry.new.writer) (cap_of c.begin.new.self) a.levels _ (column_at x a.from) _ _ (len_appended c.in_ok-first.ensures.appends) (ap (λ (k : ℕ). k + a.from) c.indent.ensures.value)) c.in_err-next.ensures))
+    rw (p.1, p.2) (inline-later w _ _ c.in_ok-header.ensures a.levels x.number (column_at x a.from) (text_at x a.from) a.split (drop (a.i + 1) ls) ls (a.i + 1) _ _ _ c.in_ok-first.ensures (c.indent.result + a.from) (ap (λ (k : ℕ). k + a.from) c.indent.ensures.value) _ _ c.in_err-next.ensures)
 
-pub inline_mapping-has_key-requires : goal.inline_mapping-has_key-requires
-inline_mapping-has_key-requires t c =
-    let o = c.entries.new.writer in
-    let g = c.in_ok-header.ensures in
+pub inline_mapping-slice_bounds-has_key-end : goal.inline_mapping-slice_bounds-has_key-end
+inline_mapping-slice_bounds-has_key-end t c =
     let e = c.in_ok-first.ensures in
-    let d = c.in_ok-next.ensures in
-    let n : length c.bytes.result.now ≡ o.used = ap length c.bytes.ensures ∙ length-take-le o.used o.out.now o.within in
-    let m = length-append (item 3 e.key) (encode e.tree) in
-    (omega (arith, c.used-later.ensures, c.used.ensures, d.appends.used), omega (arith, c.used.ensures, n), omega (arith, g.at, g.used, e.ends), omega (arith, n, d.appends.used, e.appends.used, m, item-length 3 e.key, e.ends), omega (arith, n, o.within, o.counted))
+    let o = c.entries.new.writer in
+    let n : length c.written-written.result.bytes.now ≡ o.used = ap length c.written-written.ensures ∙ length-take-le o.used o.out.now o.within in
+    omega (arith, n, c.in_ok-next.ensures.appends.used, e.appends.used, length-append (item 3 e.key) (encode e.tree), item-length 3 e.key, e.ends)
 
 pub inline_mapping-returns-then-has_key : goal.inline_mapping-returns-then-has_key
 inline_mapping-returns-then-has_key t c =
@@ -396,8 +344,10 @@ inline_mapping-returns-then-has_key t c =
     let w = a.writer.now in
     let x = line_at ls a.i in
     let e = c.in_ok-first.ensures in
-    let d = wrote-block _ _ ls _ _ _ _ (entries-as (cap_of c.entry.new.writer) (cap_of c.begin.new.self) a.levels _ (column_at x a.from) _ _ (len_appended c.in_ok-first.ensures.appends) (ap (λ (k : ℕ). k + a.from) c.indent.ensures.value)) c.in_ok-next.ensures in
-    inline-twice w _ _ c.in_ok-header.ensures a.levels x.number (column_at x a.from) (text_at x a.from) a.split (drop (a.i + 1) ls) ls (a.i + 1) _ _ _ e _ _ d c.has_key.result (rw (c.used-later.ensures, c.used.ensures, c.bytes.ensures) at c.has_key.ensures) c.if-has_key.true c.number-line.result c.number-line.ensures
+    let o = c.entries.new.writer in
+    let n : length c.written-written.result.bytes.now ≡ o.used = ap length c.written-written.ensures ∙ length-take-le o.used o.out.now o.within in
+    let h = key_in_part _ c.part-behind.ensures.bytes c.part-behind.ensures.places (omega (arith, c.used-later.ensures, c.used.ensures, c.in_ok-next.ensures.appends.used)) (omega (arith, c.used.ensures, n)) c.has_key.ensures in
+    inline-twice w _ _ c.in_ok-header.ensures a.levels x.number (column_at x a.from) (text_at x a.from) a.split (drop (a.i + 1) ls) ls (a.i + 1) _ _ _ e (c.indent.result + a.from) (ap (λ (k : ℕ). k + a.from) c.indent.ensures.value) _ _ c.in_ok-next.ensures c.has_key.result (rw (c.used-later.ensures, c.used.ensures, c.written-written.ensures) at h) c.if-has_key.true c.number-line.result c.number-line.ensures
 
 pub inline_mapping-returns : goal.inline_mapping-returns
 inline_mapping-returns t c =
@@ -406,8 +356,10 @@ inline_mapping-returns t c =
     let w = a.writer.now in
     let x = line_at ls a.i in
     let e = c.in_ok-first.ensures in
-    let d = wrote-block _ _ ls _ _ _ _ (entries-as (cap_of c.entry.new.writer) (cap_of c.begin.new.self) a.levels _ (column_at x a.from) _ _ (len_appended c.in_ok-first.ensures.appends) (ap (λ (k : ℕ). k + a.from) c.indent.ensures.value)) c.in_ok-next.ensures in
-    inline-close w _ _ c.in_ok-header.ensures a.levels x.number (column_at x a.from) (text_at x a.from) a.split (drop (a.i + 1) ls) ls (a.i + 1) _ _ _ e _ _ d c.has_key.result (rw (c.used-later.ensures, c.used.ensures, c.bytes.ensures) at c.has_key.ensures) c.if-has_key.false e.on _ c.end.ensures
+    let o = c.entries.new.writer in
+    let n : length c.written-written.result.bytes.now ≡ o.used = ap length c.written-written.ensures ∙ length-take-le o.used o.out.now o.within in
+    let h = key_in_part _ c.part-behind.ensures.bytes c.part-behind.ensures.places (omega (arith, c.used-later.ensures, c.used.ensures, c.in_ok-next.ensures.appends.used)) (omega (arith, c.used.ensures, n)) c.has_key.ensures in
+    inline-close w _ _ c.in_ok-header.ensures a.levels x.number (column_at x a.from) (text_at x a.from) a.split (drop (a.i + 1) ls) ls (a.i + 1) _ _ _ e (c.indent.result + a.from) (ap (λ (k : ℕ). k + a.from) c.indent.ensures.value) _ _ c.in_ok-next.ensures c.has_key.result (rw (c.used-later.ensures, c.used.ensures, c.written-written.ensures) at h) c.if-has_key.false e.on _ c.end.ensures
 
 pub item-returns-then-from-end : goal.item-returns-then-from-end
 item-returns-then-from-end t c =
@@ -502,38 +454,21 @@ sequence-loop-writer-init t c =
 
 pub sequence-item-requires : goal.sequence-item-requires
 sequence-item-requires t c =
-    let a = c.args in
-    let ls = a.lines.now in
     let l = c.loop-writer in
-    let k = sym c.goes_on.ensures ∙ c.loop-writer-test.true in
-    let h = dash-there ls l.i a.indent l.invariant.within' k in
-    (omega arith, (h, dash-text ls l.i a.indent h k))
+    (omega arith, item-text c.in_ok-header.ensures l.invariant (sym c.goes_on.ensures ∙ c.loop-writer-test.true))
 
 pub sequence-returns-in_err-i : goal.sequence-returns-in_err-i
 sequence-returns-in_err-i t c =
-    let a = c.args in
-    let ls = a.lines.now in
-    let w = a.writer.now in
     let l = c.loop-writer in
-    let k = sym c.goes_on.ensures ∙ c.loop-writer-test.true in
-    let h = dash-there ls l.i a.indent l.invariant.within' k in
     let p = err_from_is_err_and c.from_residual-in_err-i.result c.from_residual-in_err-i.ensures.1 in
-    rw (p.1, p.2) (list-stops ls a.first a.indent a.levels w _ _ c.in_ok-header.ensures l.writer l.i l.invariant (line_at ls l.i) (drop (l.i + 1) ls) (lines_next ls l.i h) k _ _ (refuses-as _ _ l.writer _ _ (ap (λ (m : ℕ). item_behind m (within m a.levels) (line_at ls l.i) l.writer.used (trim_start (drop 1 (line_at ls l.i).text)) (drop (l.i + 1) ls)) (sym (sout-long ls a.first a.indent a.levels w _ _ c.in_ok-header.ensures l.writer l.i l.invariant))) c.in_err-i.ensures))
+    rw (p.1, p.2) (item-stops c.in_ok-header.ensures l.invariant (sym c.goes_on.ensures ∙ c.loop-writer-test.true) c.in_err-i.ensures)
 
 pub sequence-loop-writer-preserved : goal.sequence-loop-writer-preserved
 sequence-loop-writer-preserved t c =
-    let a = c.args in
-    let ls = a.lines.now in
-    let w = a.writer.now in
     let l = c.loop-writer in
-    let k = sym c.goes_on.ensures ∙ c.loop-writer-test.true in
-    let h = dash-there ls l.i a.indent l.invariant.within' k in
-    list_on ls a.first a.indent a.levels w _ _ c.in_ok-header.ensures l.writer l.i l.invariant (line_at ls l.i) (drop (l.i + 1) ls) (lines_next ls l.i h) k _ _ (wrote-block _ _ ls _ _ _ _ (ap (λ (m : ℕ). item_behind m (within m a.levels) (line_at ls l.i) l.writer.used (trim_start (drop 1 (line_at ls l.i).text)) (drop (l.i + 1) ls)) (sym (sout-long ls a.first a.indent a.levels w _ _ c.in_ok-header.ensures l.writer l.i l.invariant))) c.in_ok-i.ensures)
+    item_on c.in_ok-header.ensures l.invariant (sym c.goes_on.ensures ∙ c.loop-writer-test.true) c.in_ok-i.ensures
 
 pub sequence-returns : goal.sequence-returns
 sequence-returns t c =
-    let a = c.args in
-    let ls = a.lines.now in
-    let w = a.writer.now in
     let l = c.loop-writer in
-    list_close ls a.first a.indent a.levels w _ _ c.in_ok-header.ensures l.writer l.i l.invariant (sym c.goes_on.ensures ∙ c.loop-writer-test.false) _ c.end.ensures
+    list_close c.in_ok-header.ensures l.invariant (sym c.goes_on.ensures ∙ c.loop-writer-test.false) _ c.end.ensures

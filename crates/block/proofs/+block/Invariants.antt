@@ -1,8 +1,5 @@
 -- The readers of blocks, which call each other: the levels fall. Assumes nothing.
-use mathlib.Core.Path.{◌≡◌}
-use Prim.Native.Nat.{◌+◌, ◌-◌, ◌*◌}
-use lib.ListN.{length, drop}
-use mathlib.Core.Bool.{true, false}
+use Rattle.std.proofs.Common.{◌≡◌, ◌+◌, ◌-◌, ◌*◌, length, drop, true, false}
 use Rattle.scalar.specs.Code.{found_of}
 use Rattle.block.specs.Contract.{key_here}
 use Rattle.block.proofs.Invariants.{Mapped, Listed}

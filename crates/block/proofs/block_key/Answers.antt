@@ -1,6 +1,5 @@
 -- By the text between the white space, and then by what the flow value is. Assumes nothing.
-use mathlib.Core.Path.{sym, ◌∙◌}
-use native.Mathlib.Omega.{arith}
+use Rattle.std.proofs.Common.{sym, ◌∙◌, arith}
 use Rattle.std.proofs.lemmas.Result.{err_from_is_err_and}
 use Rattle.block.proofs.Parts.{key-empty, key-complex, key-refused, key-unnamed, key-done}
 use Rattle.block.proofs.block_key.Goals as goal

@@ -1,4 +1,4 @@
-use lib.ListN.{drop}
+use Rattle.std.proofs.Common.{drop}
 use Rattle.std.proofs.lemmas.Result.{err_from_is_err_and}
 use Rattle.block.proofs.Parts.{line_refused, line-done}
 use Rattle.block.proofs.line_value.Goals as goal

@@ -1,5 +1,5 @@
 -- By the room. Assumes nothing.
-use lib.ListN.{drop}
+use Rattle.std.proofs.Common.{drop}
 use Rattle.std.proofs.lemmas.Result.{err_from_is_err_and}
 use Rattle.block.proofs.Parts.{null-full, null-done}
 use Rattle.block.proofs.null.Goals as goal

@@ -1,10 +1,10 @@
 -- The value of `steps` by its kind. Assumes nothing.
-use borrow.Author.Rules.{rules}
-use Rattle.std.proofs.Common.{◌≡◌, ℕ, sym, subst, ◌∙◌, arith}
+use Rattle.std.proofs.Common.{sym, ◌∙◌, subst, rules}
 use Rattle.entries.specs.Entries.{Finds}
 use Rattle.entries.proofs.Standing.{value-head, valued}
 use Rattle.entries.proofs.Values.{items_of}
 use Rattle.check_steps.proofs.Inner.{repeat-37, repeat-null, repeat-31, repeat-inner}
+use Rattle.nodes.proofs.Items.{part_holds}
 use Rattle.check_steps.proofs.check_repeat.Goals as goal
 
 pub returns-in_default : goal.returns-in_default
@@ -14,7 +14,7 @@ pub returns-in_default-header_at : goal.returns-in_default-header_at
 returns-in_default-header_at c = λ ns e v g st.
     let f = subst (Finds _ _) c.in-At.is (c.find_steps.ensures v g st) in
     let q = sym c.in_default-header_at.is ∙ c.header_at.ensures.value ∙ value-head f.value (search rules) f.stands in
-    absurd (let z : ◌≡◌ {A = ℕ} 0 1 = cc q in omega arith)
+    cc q
 
 pub returns-then-item : goal.returns-then-item
 returns-then-item c = λ ns e v g st.
@@ -33,4 +33,4 @@ returns c = λ ns e v g st.
     let f = subst (Finds _ _) c.in-At.is (c.find_steps.ensures v g st) in
     let i = valued (sym c.in-Ok.is ∙ c.header_at.ensures.value) f.value (search rules) f.stands in
     let l = items_of f.value f.ranged i.inside i.ends (sym i.kind_is ∙ c.if-item-2.false) in
-    repeat-inner ns _ _ v f.value f.is l.items l.is (c.check_inner.ensures ns e l.items l.holds)
+    repeat-inner ns _ _ v f.value f.is l.items l.is (c.check_inner.ensures ns e l.items (part_holds c.part.ensures.bytes c.part.ensures.places l.holds))

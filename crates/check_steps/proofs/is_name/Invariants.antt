@@ -1,5 +1,5 @@
 -- The invariant: the names that are left have the key where all of them have it. Assumes nothing.
-use Rattle.std.proofs.Common.{ℕ, ◌≡◌, List, length}
+use Rattle.std.proofs.Common.{◌≡◌, ℕ, List, length}
 use Rattle.std.proofs.Math.Option.{some}
 use Rattle.check_steps.specs.Names.{filled}
 use Rattle.check_steps.proofs.Names.{Unread}

@@ -1,6 +1,6 @@
 -- By the bytes of both records the meanings are told apart. Assumes nothing.
 use Rattle.demands.proofs.Calls.{compared_same, compared-different}
-use mathlib.Core.Path.{sym, ◌∙◌}
+use Rattle.std.proofs.Common.{sym, ◌∙◌}
 use Rattle.demands.proofs.compare_texts.Goals as goal
 
 pub returns-then-same_bytes : goal.returns-then-same_bytes

@@ -1,10 +1,5 @@
 -- Each part begins where the one before it ends. Assumes nothing.
-use Prim.Native.Nat.{◌+◌, ◌-◌}
-use mathlib.Core.Path.{◌≡◌, ◌∙◌, sym}
-use native.Mathlib.Omega.{arith}
-use lib.ListN.{take}
-use lib.Seq.{take_all}
-use borrow.Author.Tests.{eq-eqb}
+use Rattle.std.proofs.Common.{◌+◌, ◌-◌, ◌≡◌, ◌∙◌, sym, arith, take, take_all, eq-eqb}
 use Rattle.meaning.specs.Record.{joined}
 use Rattle.demands.proofs.Lookups.{found-part, part-there, part-starts, part-ends}
 use Rattle.demands.proofs.fill.Goals.{else-loop-number-test, then-loop-number-test+in-Found+else-start-at+else-number-count}

@@ -1,6 +1,6 @@
 -- What is read of a text is the text's own, and a refusal of a text that can be read says that too little was lent. Assumes nothing.
 use Rattle.demands.proofs.Calls.{only-lacks, alike-bytes}
-use mathlib.Core.Path.{refl, ◌∙◌}
+use Rattle.std.proofs.Common.{refl, ◌∙◌}
 use Rattle.demands.proofs.reads_alike.Goals as goal
 
 pub returns-in-Ok-record_of : goal.returns-in-Ok-record_of

@@ -1,5 +1,5 @@
 -- There is no part with a number 0 or above the count. Assumes nothing.
-use mathlib.Core.Path.{◌∙◌}
+use Rattle.std.proofs.Common.{◌∙◌}
 use Rattle.demands.proofs.Lookups.{not-numbered}
 use Rattle.demands.proofs.refuses_others.Goals as goal
 

@@ -1,5 +1,5 @@
 -- The job's answer, told. Assumes nothing.
-use mathlib.Core.Path.{ap, ◌∙◌}
+use Rattle.std.proofs.Common.{ap, ◌∙◌}
 use Rattle.drum.specs.Numbers.{first_of, told}
 use Rattle.drum.proofs.Telling.{share-told}
 use Rattle.drum.proofs.drum_share.Goals as goal

@@ -1,11 +1,6 @@
 -- Each number is told in its place, if there is one. Assumes nothing.
-use mathlib.Core.Path.{◌≡◌, sym, ap, ◌∙◌}
-use mathlib.Core.List.{List}
-use Prim.Native.Nat.{ℕ, ◌+◌, ◌<◌}
-use native.Mathlib.Omega.{arith}
-use native.Mathlib.Numerals.{add-one}
-use lib.ListN.{set, take, get_or, length}
-use lib.Seq.{set_out}
+use Rattle.std.proofs.Common.{◌≡◌, sym, ap, ◌∙◌, List, ℕ, ◌+◌, ◌<◌, arith, add-one, set, take, get_or, length}
+use Rattle.std.proofs.Math.Seq.{set_out}
 use Rattle.drum.specs.Numbers.{told}
 use Rattle.drum.proofs.Telling.{told-none, told-more}
 use Rattle.drum.proofs.store.Goals.{then-i-answer, else-i-answer}

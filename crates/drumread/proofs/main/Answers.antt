@@ -1,6 +1,5 @@
 -- The sizes told lie within the record and the lines. Assumes nothing.
-use Rattle.std.proofs.Common.{sym, arith}
-use lib.Seq.{length-take-le}
+use Rattle.std.proofs.Common.{sym, arith, length-take-le}
 use Rattle.scenario.proofs.ReadScenario.{sizes-fit}
 use Rattle.drumread.proofs.main.Goals as goal
 

@@ -1,6 +1,5 @@
 -- The size told lies within the record. Assumes nothing.
-use Rattle.std.proofs.Common.{sym, arith}
-use lib.Seq.{length-take-le}
+use Rattle.std.proofs.Common.{sym, arith, length-take-le}
 use Rattle.scenario.proofs.ReadScenario.{sizes-fit}
 use Rattle.drumrecord.proofs.main.Goals as goal
 

@@ -1,6 +1,5 @@
 -- A key is there if it has a value. Assumes nothing.
-use borrow.Author.Rules.{rules}
-use mathlib.Core.Path.{subst}
+use Rattle.std.proofs.Common.{rules, subst}
 use Rattle.entries.specs.Entries.{Seeks}
 use Rattle.entries.proofs.Walking.{key-there, key-missing, lies-between}
 use Rattle.entries.proofs.has_key.Goals as goal

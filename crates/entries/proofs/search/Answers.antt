@@ -1,9 +1,7 @@
-use Rattle.std.proofs.Common.{rules, arith, ◌≡◌, ◌-◌, ℕ, take, drop, sym, ◌∙◌, subst, length}
-use mathlib.Core.Bool.{false}
-use lib.ListN.{length-take, length-drop}
+use Rattle.std.proofs.Common.{rules, arith, ◌≡◌, ◌-◌, ℕ, take, drop, sym, ◌∙◌, subst, length, false, length-take, length-drop}
 use Rattle.refusal.specs.Base.{same}
 use Rattle.item.proofs.Same.{same_length}
-use Rattle.entries.proofs.Walking.{turn, no-entry, step, stop, Sought, search-end, place_end, search-found, place_found, search-on}
+use Rattle.entries.proofs.Walking.{turn, no-entry, Sought, search-end, place_end, search-found, place_found, search-on, step, stop}
 use Rattle.entries.proofs.search.Goals as goal
 use Rattle.entries.proofs.search.Goals.{else-is_as_long-via-then-is_as_long+else-equal_bytes, else-is_as_long-via-else-is_as_long}
 
@@ -39,7 +37,7 @@ pub loop-pair-preserved : goal.loop-pair-preserved
 loop-pair-preserved c =
     let i = c.loop-pair.invariant in
     let p = c.in-Ok.pair in
-    let s = c.args.s.now in
+    let s = c.args.part.bytes.now in
     let key = c.args.key.now in
     let t = step _ _ i.0 i.1 c.in-Some.ensures.steps c.in-Ok.is in
     let other : same (take (p.end - p.start) (drop p.start s)) key ≡ false = elim c.else-is_as_long.branch [
@@ -49,7 +47,7 @@ loop-pair-preserved c =
       t.bytes,
       t.end,
       λ es h. let w = i.2 es h in
-          subst (λ (n : ℕ). Sought s key c.args.from c.args.to n es) (sym t.next) (search-on w (turn w.rest (search rules) t.before t.is w.lies) other),
+          subst (λ (n : ℕ). Sought s key c.args.part.from c.args.part.to n es) (sym t.next) (search-on w (turn w.rest (search rules) t.before t.is w.lies) other),
     )
 
 pub returns-clause-value : goal.returns-clause-value

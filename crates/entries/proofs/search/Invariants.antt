@@ -7,5 +7,5 @@ use Rattle.entries.proofs.search.Given as goal
 
 abbrev pub invariant-loop-pair : goal.invariant-loop-pair
 invariant-loop-pair l =
-    (l.pair-iterator.bytes.now ≡ l.s) × (l.pair-iterator.to ≡ l.to)
-    × ((es : Entries) → Lies l.s l.from l.to es → Sought l.s l.key l.from l.to l.pair-iterator.at es)
+    (l.pair-iterator.bytes.now ≡ l.part.bytes.now) × (l.pair-iterator.to ≡ l.part.to)
+    × ((es : Entries) → Lies l.part.bytes.now l.part.from l.part.to es → Sought l.part.bytes.now l.key l.part.from l.part.to l.pair-iterator.at es)

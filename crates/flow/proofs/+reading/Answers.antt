@@ -1,14 +1,10 @@
-use mathlib.Core.Path.{◌≡◌, refl, sym, ◌∙◌}
-use Prim.Native.Nat.{◌<◌}
-use mathlib.Core.Bool.{Bool, true, false, not}
-use native.Mathlib.Omega.{arith}
-use borrow.Author.Rules.{rules}
-use lib.ListN.{length}
+use Rattle.std.proofs.Common.{◌≡◌, refl, sym, ◌∙◌, ◌<◌, Bool, true, false, not, arith, rules, length}
 use Rattle.std.proofs.lemmas.Result.{err_from_is_err_and}
 use Rattle.writer.specs.Writing.{cap_of}
 use Rattle.writer.proofs.Laws.{keeps_same}
 use Rattle.scalar.specs.declared.Role.TheVariants.{AsValue}
 use Rattle.scalar.specs.Contract.{is_in_flow}
+use Rattle.entries.proofs.Parts.{in_part}
 use Rattle.flow.proofs.Invariants.{Listed, Mapped, listed_start, listed_at, list_open, list_close, list-stuck, list_stops, list_less, listed_next, mapped_start, mapped_at, map-open, map-close, map_stops, mapped_next, mapping_twice, mapping_done, lies_in_front}
 use Rattle.flow.proofs.Values.{reads_as, value-end, value-double, value-single, value-anchor, value-plain, value-deep, value-full, mapping_stops, mapping_wrote, sequence_stops, sequence_wrote, value_last, value_null, value_there, entry_refused, entry_unnamed, entry_ends, entry_colonless, entry_stops, entry_reads}
 use Rattle.flow.proofs.+reading.Goals as goal
@@ -159,14 +155,14 @@ mapping-returns-then-repeats t c =
     let a = c.args in
     let w = c.entries-end.new.writer in
     mapping_twice a.s.now _ a.site.line a.writer.now w _ c.entries-end.ensures c.repeats.result (λ es l.
-    c.repeats.ensures es (rw (c.used-first.ensures, c.used.ensures, c.bytes.ensures) (lies_in_front w.out.now a.writer.now.used w.used es w.within l))) c.if-repeats.true
+    c.repeats.ensures es (in_part es c.part.ensures.bytes c.part.ensures.places (rw (c.used-first.ensures, c.used.ensures, c.written.ensures) (lies_in_front w.out.now a.writer.now.used w.used es w.within l)))) c.if-repeats.true
 
 pub mapping-returns : goal.mapping-returns
 mapping-returns t c =
     let a = c.args in
     let w = c.entries-end.new.writer in
     mapping_done a.s.now _ a.site.line a.writer.now w _ c.entries-end.ensures c.repeats.result (λ es l.
-    c.repeats.ensures es (rw (c.used-first.ensures, c.used.ensures, c.bytes.ensures) (lies_in_front w.out.now a.writer.now.used w.used es w.within l))) c.if-repeats.false
+    c.repeats.ensures es (in_part es c.part.ensures.bytes c.part.ensures.places (rw (c.used-first.ensures, c.used.ensures, c.written.ensures) (lies_in_front w.out.now a.writer.now.used w.used es w.within l)))) c.if-repeats.false
 
 -- ---- a sequence
 

@@ -1,6 +1,5 @@
 -- The readers of a value, an entry and the two collections, which call each other: the levels fall. Assumes nothing.
-use Prim.Native.Nat.{◌+◌, ◌*◌, ◌-◌}
-use lib.ListN.{length}
+use Rattle.std.proofs.Common.{◌+◌, ◌*◌, ◌-◌, length}
 use Rattle.flow.proofs.Invariants.{Listed, Mapped}
 use Rattle.flow.proofs.+reading.Given as goal
 

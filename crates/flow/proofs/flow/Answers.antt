@@ -1,8 +1,5 @@
 -- What is read behind the spaces at the start of the part, and what stands behind it. Assumes nothing.
-use mathlib.Core.Path.{◌≡◌}
-use mathlib.Core.Bool.{false}
-use native.Mathlib.Omega.{arith}
-use lib.ListN.{drop}
+use Rattle.std.proofs.Common.{◌≡◌, false, arith, drop}
 use Rattle.std.proofs.lemmas.Result.{err_from_is_err_and}
 use Rattle.writer.specs.Writing.{cap_of}
 use Rattle.scalar.specs.Read.{skip_spaces}

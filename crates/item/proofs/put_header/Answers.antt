@@ -1,6 +1,6 @@
 use Rattle.std.proofs.Common.{◌≡◌, ◌+◌, ◌-◌, ◌≤◌, ℕ, List, length, ◌∙◌, arith, rules}
 use Rattle.std.proofs.lemmas.List.Edits.{sets}
-use lib.Seq.{length-sets}
+use Rattle.std.proofs.Math.Seq.{length-sets}
 use borrow.Rule.Slice.PartMut.{put_mid}
 use Rattle.item.specs.Encode.{le, head}
 use Rattle.item.proofs.Runs.{sets-append}

@@ -10,7 +10,3 @@ negated m (suc n) h k e = omega (arith, e)
 
 pub returns-then-n : goal.returns-then-n
 returns-then-n c = rw c.if-n.true (negated _ _ c.wrapping_neg.type_inv (search rules) c.wrapping_neg.ensures)
-
-pub returns-else-n : goal.returns-else-n
-unfolding twos signed
-returns-else-n c = rw c.if-n.false

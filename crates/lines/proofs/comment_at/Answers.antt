@@ -1,14 +1,9 @@
-use borrow.Author.Rules.{rules}
-use mathlib.Core.Path.{◌≡◌, refl, sym, subst, ◌∙◌}
-use native.Mathlib.Omega.{arith}
-use Prim.Native.Nat.{ℕ}
-use lib.ListN.{length, get_or}
+use Rattle.std.proofs.Common.{rules, ◌≡◌, refl, sym, subst, ◌∙◌, arith, ℕ, length, get_or, true, false}
 use Rattle.utf8.specs.Part.{part}
 use Rattle.refusal.specs.Base.{ch}
 use Rattle.lines.specs.Places.{Lacks}
 use Rattle.lines.specs.Lines.{strip_comment, uncommented, starts_comment}
 use Rattle.lines.proofs.Laws.{strip-none, comment-none, comment-here, comment-on}
-use mathlib.Core.Bool.{true, false}
 use Rattle.lines.proofs.comment_at.Goals as goal
 
 pub returns-then-find_byte-to : goal.returns-then-find_byte-to

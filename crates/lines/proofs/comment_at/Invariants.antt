@@ -1,7 +1,5 @@
 -- A part without `#` has no comment. The invariant: what is left of the part before its comment is what is passed, and what is left of the rest. Assumes nothing.
-use mathlib.Core.Path.{◌≡◌}
-use Prim.Native.Nat.{◌+◌, ◌≤◌}
-use lib.ListN.{length}
+use Rattle.std.proofs.Common.{◌≡◌, ◌+◌, ◌≤◌, length}
 use Rattle.utf8.specs.Part.{part}
 use Rattle.lines.specs.Lines.{strip_comment, uncommented}
 use Rattle.lines.proofs.comment_at.Given as goal

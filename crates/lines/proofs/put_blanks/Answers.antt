@@ -1,7 +1,4 @@
-use mathlib.Core.Path.{◌≡◌, subst}
-use mathlib.Core.List.{◌++◌}
-use Prim.Native.Nat.{ℕ, ◌+◌, ◌-◌}
-use native.Mathlib.Omega.{arith}
+use Rattle.std.proofs.Common.{◌≡◌, subst, ◌++◌, ℕ, ◌+◌, ◌-◌, arith}
 use Rattle.lines.specs.Lines.{blanks_before}
 use Rattle.lines.specs.Table.{Took}
 use Rattle.lines.proofs.TableLaws.{took-both, took-blank}
@@ -15,7 +12,7 @@ loop-i-preserved c = λ text es.
     let e : a.at + (l.i + 1) ≡ a.at + l.i + 1 = omega arith in
     let f : a.waiting - (l.i + 1) ≡ a.waiting - l.i - 1 = omega arith in
     took-both (l.invariant text es)
-    (rw (c.make_row.ensures, n, e, f) (took-blank text l.rows (a.at + l.i) a.number a.indent (a.waiting - l.i) (omega arith) (omega arith) (omega arith) es))
+    (rw (c.make_row.ensures, n, e, f) (took-blank text l.rows (a.at + l.i) a.number a.indent (a.waiting - l.i) (omega (arith, (l.invariant text es).long)) (omega arith) (omega arith) es))
 
 pub returns : goal.returns
 unfolding blanks_before

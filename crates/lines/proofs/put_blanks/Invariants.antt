@@ -1,6 +1,5 @@
 -- The invariant: the blank lines but for the last are taken into the table. Assumes nothing.
-use mathlib.Core.List.{List, ◌++◌}
-use Prim.Native.Nat.{ℕ, ◌+◌, ◌-◌}
+use Rattle.std.proofs.Common.{List, ◌++◌, ℕ, ◌+◌, ◌-◌}
 use Rattle.lines.specs.Lines.{Event, blanks_before}
 use Rattle.lines.specs.Table.{Took}
 use Rattle.lines.proofs.put_blanks.Given as goal

@@ -1,5 +1,5 @@
 -- The invariant: the byte does not stand before this place. Assumes nothing.
-use Prim.Native.Nat.{◌≤◌, ◌-◌}
+use Rattle.std.proofs.Common.{◌≤◌, ◌-◌}
 use Rattle.lines.specs.Places.{Lacks}
 use Rattle.lines.proofs.skip_eights.Given as goal
 

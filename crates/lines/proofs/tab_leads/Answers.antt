@@ -1,9 +1,5 @@
 -- A tab stands in the leading white space where a search of that part finds one. Assumes nothing.
-use borrow.Author.Rules.{rules}
-use mathlib.Core.Path.{sym, ap, ◌∙◌}
-use mathlib.Core.List.{List}
-use Prim.Native.Nat.{ℕ, ◌+◌, ◌≤◌}
-use native.Mathlib.Omega.{arith}
+use Rattle.std.proofs.Common.{rules, sym, ap, ◌∙◌, List, ℕ, ◌+◌, ◌≤◌, arith}
 use Rattle.utf8.specs.Part.{part}
 use Rattle.utf8.specs.White.{leading}
 use Rattle.utf8.proofs.Laws.{part-take}

@@ -1,5 +1,4 @@
-use mathlib.Core.Path.{◌≡◌, ◌∙◌}
-use native.Mathlib.Omega.{arith}
+use Rattle.std.proofs.Common.{◌≡◌, ◌∙◌, arith}
 use Rattle.literal.proofs.Laws.{row-end, row-stop, row-rest, row-size, extent_of}
 use Rattle.literal.proofs.extent.Goals as goal
 

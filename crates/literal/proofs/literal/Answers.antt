@@ -1,5 +1,5 @@
 -- No line, a line that is not deeper than the key, or the first line of the literal. Assumes nothing.
-use native.Mathlib.Omega.{arith}
+use Rattle.std.proofs.Common.{arith}
 use Rattle.writer.specs.Writing.{cap_of}
 use Rattle.literal.proofs.Whole.{literal-none, literal-beside, literal_under_lem}
 use Rattle.literal.proofs.literal.Goals as goal

@@ -1,8 +1,5 @@
 -- A header of no bytes is the empty string. Assumes nothing.
-use mathlib.Core.Path.{refl}
-use mathlib.Core.List.{[]}
-use native.Mathlib.Omega.{arith}
-use lib.ListN.{drop}
+use Rattle.std.proofs.Common.{refl, [], arith, drop}
 use Rattle.std.proofs.lemmas.Result.{err_from_is_err_and}
 use Rattle.writer.specs.Writing.{cap_of}
 use Rattle.writer.proofs.Laws.{appends_none, keeps_same}

@@ -1,10 +1,7 @@
-use native.Mathlib.Omega.{arith}
+use Rattle.std.proofs.Common.{arith}
 use Rattle.writer.proofs.Laws.{len_appended}
-use Rattle.literal.proofs.Laws.{row-end, row-stop, put_start, put_room, put_more, put_end}
+use Rattle.literal.proofs.Laws.{row-end, row-stop, put_room, put_more, put_end}
 use Rattle.literal.proofs.put_lines.Goals as goal
-
-pub loop-i-init : goal.loop-i-init
-loop-i-init c = let a = c.args in put_start a.lines.now a.indent a.first a.to a.writer.now
 
 pub put_line-requires : goal.put_line-requires
 put_line-requires c =

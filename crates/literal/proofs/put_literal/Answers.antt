@@ -1,10 +1,9 @@
 -- Measured, and then written, where it fits. Assumes nothing.
-use mathlib.Core.Path.{refl}
-use native.Mathlib.Omega.{arith}
+use Rattle.std.proofs.Common.{refl, arith}
 use Rattle.std.proofs.lemmas.Result.{err_from_is_err_and}
 use Rattle.writer.specs.Writing.{cap_of}
 use Rattle.writer.proofs.Laws.{keeps_same, len_appended, header_used}
-use Rattle.literal.proofs.Whole.{kept-range, extent_some, literal-short, literal-wrote}
+use Rattle.literal.proofs.Whole.{extent_some, literal-short, literal-wrote}
 use Rattle.literal.proofs.put_literal.Goals as goal
 
 pub kept_len-len-requires : goal.kept_len-len-requires
@@ -24,21 +23,10 @@ returns-in_err-reserve c =
     let e = c.in_err-reserve.ensures in
     rw (p.1, p.2, e.1) (record { is = literal-short a.lines.now a.i a.indent q.lines q.line q.indent x.result x.ensures a.strip n.result n.ensures (cap_of w) w.used (omega (arith, e.0)); keeps = keeps_same refl })
 
-pub put_lines-requires : goal.put_lines-requires
-put_lines-requires c =
-    let a = c.args in
-    let q = c.requires in
-    let x = c.extent-body in
-    let n = c.kept_len-len in
-    let k = extent_some a.lines.now a.i a.indent q.lines q.line q.indent x.result x.ensures in
-    let g = kept-range a.strip x.result.len n.result k n.ensures in
+pub put_lines-requires-clause-room : goal.put_lines-requires-clause-room
+put_lines-requires-clause-room c =
     let p = c.header.ensures in
-    record {
-      first = omega arith;
-      room = omega (arith, c.in_ok-reserve.ensures, header_used 3 n.result p, len_appended p);
-      most = omega (arith, x.ensures.size, g.1);
-      least = omega (arith, x.ensures.size, g.0);
-    }
+    omega (arith, c.in_ok-reserve.ensures, header_used 3 c.kept_len-len.result p, len_appended p)
 
 pub returns : goal.returns
 returns c =

@@ -7,7 +7,7 @@ use Rattle.lookups.proofs.find_id.Given as goal
 
 abbrev pub invariant-loop-step : goal.invariant-loop-step
 invariant-loop-step l = record {
-  bytes : l.step-iterator.bytes.now ≡ l.s;
-  to : l.step-iterator.to ≡ l.to;
-  left : (steps : List Step) → StepsLie l.s l.from l.to steps → Left l.s l.id l.from l.to l.step-iterator.at steps;
+  bytes : l.step-iterator.bytes.now ≡ l.steps.bytes.now;
+  to : l.step-iterator.to ≡ l.steps.to;
+  left : (steps : List Step) → StepsLie l.steps.bytes.now l.steps.from l.steps.to steps → Left l.steps.bytes.now l.id l.steps.from l.steps.to l.step-iterator.at steps;
 }

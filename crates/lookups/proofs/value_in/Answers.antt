@@ -1,9 +1,6 @@
 -- The value is the fourth part of the step. Assumes nothing.
-use borrow.Author.Rules.{rules}
-use native.Mathlib.Omega.{arith}
-use Prim.Native.Nat.{ℕ}
-use mathlib.Core.Path.{sym, ap, ◌∙◌}
-use mathlib.Core.Option.{Option}
+use Rattle.std.proofs.Common.{sym, ap, ◌∙◌, ℕ, arith, rules}
+use Rattle.std.proofs.Math.Option.{Option}
 use Rattle.refusal.specs.Base.{good}
 use Rattle.item.specs.Tree.{Yaml}
 use Rattle.lookups.specs.Lookups.{item_part}

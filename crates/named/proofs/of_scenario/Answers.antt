@@ -1,5 +1,5 @@
 -- By what the job answers. Assumes nothing.
-use lib.ListN.{length}
+use Rattle.std.proofs.Common.{length}
 use Rattle.named.proofs.Named.{scenario_named}
 use Rattle.named.proofs.of_scenario.Goals as goal
 

@@ -1,6 +1,6 @@
 -- Below 2 ^ 63 the number itself, and from there on its distance to 2 ^ 64. Assumes nothing.
 use Rattle.std.proofs.Common.{◌≡◌, ap, ◌∙◌, take, drop, arith, rules}
-use borrow.Author.Tests.{le-leb, lt-leb}
+use Rattle.std.proofs.lemmas.Bool.{le-leb, lt-leb}
 use Rattle.item.specs.Encode.{number}
 use Rattle.item.specs.Decode.{untwos}
 use Rattle.nodes.proofs.Numbers.{eight-at}

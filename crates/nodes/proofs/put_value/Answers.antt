@@ -1,7 +1,13 @@
 -- The bytes of a value that was found are its item. Assumes nothing.
-use Rattle.nodes.proofs.Writing.{writes_is}
+use Rattle.std.proofs.Common.{arith}
+use Rattle.item.specs.Encode.{encode}
+use Rattle.nodes.proofs.Writing.{writes_is, item_most}
 use Rattle.nodes.proofs.Texts.{value-part, no-value}
 use Rattle.nodes.proofs.put_value.Goals as goal
+
+pub returns-in-None-clause-goes : goal.returns-in-None-clause-goes
+unfolding encode
+returns-in-None-clause-goes c = item_most _ _ _ c.null.ensures (omega arith)
 
 pub returns-in-Some-clause-value : goal.returns-in-Some-clause-value
 returns-in-Some-clause-value c = λ v r. writes_is (value-part r.value c.in-Some.ensures.inside.0 (c.in-Some.ensures.item r.value r.found) r.is) c.put.ensures

@@ -1,5 +1,4 @@
-use borrow.Author.Rules.{rules}
-use native.Mathlib.Omega.{arith}
+use Rattle.std.proofs.Common.{rules, arith}
 use Rattle.number.proofs.Laws.{decimal-twenty, length-one, length_more}
 use Rattle.number.proofs.decimal_len.Goals as goal
 

@@ -1,7 +1,5 @@
 -- The invariant: the digits counted so far, less one, and those of what is left are all of them. Assumes nothing.
-use Prim.Native.Nat.{◌+◌, ◌≤◌, ◌<◌, ◌^◌}
-use mathlib.Core.Path.{◌≡◌}
-use lib.ListN.{length}
+use Rattle.std.proofs.Common.{◌+◌, ◌≤◌, ◌<◌, ◌^◌, ◌≡◌, length}
 use Rattle.number.specs.Integers.{decimal_of}
 use Rattle.number.proofs.decimal_len.Given as goal
 

@@ -1,7 +1,5 @@
 -- The invariant: the digits from here on, with what is read before them, make the number that all of them make. Assumes nothing.
-use mathlib.Core.Path.{◌≡◌}
-use Prim.Native.Nat.{◌≤◌}
-use lib.ListN.{drop}
+use Rattle.std.proofs.Common.{◌≡◌, ◌≤◌, drop}
 use Rattle.number.specs.Integers.{digits}
 use Rattle.number.specs.Code.{bounded}
 use Rattle.number.proofs.Laws.{digits_from}

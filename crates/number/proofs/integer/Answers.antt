@@ -1,6 +1,5 @@
 -- By the first byte. Assumes nothing.
-use mathlib.Core.Path.{sym, ap, ◌∙◌}
-use native.Mathlib.Omega.{arith}
+use Rattle.std.proofs.Common.{sym, ap, ◌∙◌, arith}
 use Rattle.number.specs.Code.{int_of}
 use Rattle.number.proofs.Laws.{int-none, int-minus, int-bare}
 use Rattle.number.proofs.integer.Goals as goal

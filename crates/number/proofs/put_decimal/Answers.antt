@@ -1,9 +1,5 @@
-use borrow.Author.Rules.{rules}
-use native.Mathlib.Omega.{arith}
-use mathlib.Core.Path.{sym, ap, ◌∙◌}
-use Prim.Native.Nat.{◌≤◌}
-use lib.ListN.{length-set}
-use lib.Seq.{sets}
+use Rattle.std.proofs.Common.{rules, arith, sym, ap, ◌∙◌, ◌≤◌, length-set}
+use Rattle.std.proofs.Math.Seq.{sets}
 use Rattle.number.proofs.Laws.{length-one, length_more, decimal-one, digit-back}
 use Rattle.number.proofs.put_decimal.Goals as goal
 

@@ -1,8 +1,6 @@
 -- The invariant: with the digits of what is left stored before them, those stored so far are all of them. Assumes nothing.
-use mathlib.Core.Path.{◌≡◌}
-use Prim.Native.Nat.{◌+◌, ◌≤◌, ◌<◌, ◌^◌}
-use lib.ListN.{length}
-use lib.Seq.{sets}
+use Rattle.std.proofs.Common.{◌≡◌, ◌+◌, ◌≤◌, ◌<◌, ◌^◌, length}
+use Rattle.std.proofs.Math.Seq.{sets}
 use Rattle.number.specs.Integers.{decimal_of}
 use Rattle.number.proofs.put_decimal.Given as goal
 

@@ -1,7 +1,6 @@
 -- By the count of bytes. Assumes nothing.
-use mathlib.Core.Path.{sym}
-use native.Mathlib.Omega.{arith}
-use borrow.Author.Tests.{lt-leb}
+use Rattle.std.proofs.Common.{sym, arith}
+use Rattle.std.proofs.lemmas.Bool.{lt-leb}
 use Rattle.number.proofs.Laws.{zero_one, zero_more}
 use Rattle.number.proofs.zero_first.Goals as goal
 

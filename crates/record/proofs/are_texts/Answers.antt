@@ -1,12 +1,11 @@
 -- One text after the other. Assumes nothing.
-use borrow.Author.Rules.{rules}
-use Rattle.std.proofs.Common.{◌≡◌, sym, ◌∙◌, subst, ℕ, ◌+◌, arith}
+use Rattle.std.proofs.Common.{◌≡◌, sym, ◌∙◌, subst, ℕ, ◌+◌, arith, rules}
 use Rattle.item.proofs.Headers.{no_header as no-item-there}
 use Rattle.value.proofs.Contents.{no_header}
 use Rattle.record.specs.Read.{field_of, as_text}
 use Rattle.record.proofs.Chains.{texts-end, texts-fail}
 use Rattle.record.proofs.Invariants.{Left, left-start, left-next}
-use Rattle.record.proofs.Turns.{turn, stop}
+use Rattle.item.proofs.Turns.{turn, stop}
 use Rattle.record.proofs.Views.{no_field, text-here, no-text}
 use Rattle.record.proofs.are_texts.Goals as goal
 
@@ -30,7 +29,7 @@ pub is_text-requires : goal.is_text-requires
 is_text-requires c =
     let i = c.loop-item.invariant in
     let t = turn _ _ i.bytes i.to c.in-Some.ensures.steps c.in-Ok.is in
-    (t.spans.order, t.spans.fits)
+    (t.places.order, t.places.fits)
 
 pub returns-then-not-is_text : goal.returns-then-not-is_text
 returns-then-not-is_text c =

@@ -2,7 +2,7 @@
 use Rattle.std.proofs.Common.{sym, ap, ◌∙◌, List, ℕ, drop, arith}
 use Rattle.refusal.specs.Base.{one_of}
 use Rattle.meaning.specs.Meaning.{step_fields}
-use Rattle.value.proofs.Contents.{bytes_of}
+use Rattle.item.proofs.Exact.{bytes_of}
 use Rattle.record.proofs.Views.{no_text, no-command, command, text-part}
 use Rattle.record.proofs.command_at.Goals as goal
 

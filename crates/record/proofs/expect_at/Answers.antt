@@ -7,9 +7,9 @@ use Rattle.record.proofs.expect_at.Goals as goal
 pub returns-then-is_built_in : goal.returns-then-is_built_in
 returns-then-is_built_in c =
     let a = c.args in
-    viewed (as_expect a.command.now) _ (built-in-tests a.command.now (sym c.is_built_in.ensures ∙ c.if-is_built_in.true)) 29 a.s.now a.at c.value_of.result c.value_of.ensures
+    viewed (as_expect a.command.now) _ (built-in-tests a.command.now (sym c.is_built_in.ensures ∙ c.if-is_built_in.true)) 29 a.s.bytes.now a.at c.value_of.result c.value_of.ensures
 
 pub returns : goal.returns
 returns c =
     let a = c.args in
-    viewed (as_expect a.command.now) _ (expect-tests a.command.now (sym c.is_built_in.ensures ∙ c.if-is_built_in.false)) 29 a.s.now a.at c.value_of-2.result c.value_of-2.ensures
+    viewed (as_expect a.command.now) _ (expect-tests a.command.now (sym c.is_built_in.ensures ∙ c.if-is_built_in.false)) 29 a.s.bytes.now a.at c.value_of-2.result c.value_of-2.ensures

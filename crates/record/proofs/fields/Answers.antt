@@ -20,7 +20,7 @@ returns-in_err-tags c = rw (c.from_residual-in_err-tags.ensures, c.in_ok-descrip
 pub returns-in_err-image : goal.returns-in_err-image
 unfolding meaning_steps maybe fields_in ◌>>=◌
 returns-in_err-image c =
-    rw (c.from_residual-in_err-image.ensures, c.in_ok-description.ensures.is, c.in_ok-tags.ensures.is, no_item 4 (all (field_of as_text 0)) (drop c.in_ok-tags.tags c.args.s.now) c.in_err-image.ensures)
+    rw (c.from_residual-in_err-image.ensures, c.in_ok-description.ensures.is, c.in_ok-tags.ensures.is, no_item 4 (all (field_of as_text 0)) (drop c.in_ok-tags.tags c.args.s.bytes.now) c.in_err-image.ensures)
 
 pub returns-then-not-are_texts : goal.returns-then-not-are_texts
 unfolding meaning_steps maybe fields_in ◌>>=◌ are_texts
@@ -37,12 +37,12 @@ pub returns-in_err-defaults : goal.returns-in_err-defaults
 unfolding meaning_steps maybe fields_in ◌>>=◌ are_texts
 returns-in_err-defaults c =
     let t = content-read (all (field_of as_text 0)) c.in_ok-image.ensures (sym c.are_texts.ensures ∙ c.if-not-are_texts.false) in
-    let n = tree-walks 31 c.args.s.now c.in_ok-setup.setup None c.in_err-defaults.ensures in
+    let n = tree-walks 31 c.args.s.bytes.now c.in_ok-setup.setup None c.in_err-defaults.ensures in
     rw (c.from_residual-in_err-defaults.ensures, c.in_ok-description.ensures.is, c.in_ok-tags.ensures.is, t.is, c.in_ok-setup.ensures.is, n)
 
 pub returns : goal.returns
 unfolding are_texts
 returns c =
     let t = content-read (all (field_of as_text 0)) c.in_ok-image.ensures (sym c.are_texts.ensures ∙ c.if-not-are_texts.false) in
-    let v = tree-walks 31 c.args.s.now c.in_ok-setup.setup (Some c.in_ok-defaults.defaults) c.in_ok-defaults.ensures in
-    c.rest.ensures ∙ fields-last c.args.s.now c.in_ok-description.ensures c.in_ok-tags.ensures t c.in_ok-setup.ensures v
+    let v = tree-walks 31 c.args.s.bytes.now c.in_ok-setup.setup (Some c.in_ok-defaults.defaults) c.in_ok-defaults.ensures in
+    c.rest.ensures ∙ fields-last c.args.s.bytes.now c.in_ok-description.ensures c.in_ok-tags.ensures t c.in_ok-setup.ensures v

@@ -4,4 +4,4 @@ use Rattle.record.proofs.Views.{viewed, flag-tests}
 use Rattle.record.proofs.flag_at.Goals as goal
 
 pub returns : goal.returns
-returns c = viewed as_flag _ flag-tests 0 c.args.s.now c.args.at c.value_of.result c.value_of.ensures
+returns c = viewed as_flag _ flag-tests 0 c.args.s.bytes.now c.args.at c.value_of.result c.value_of.ensures

@@ -1,14 +1,12 @@
 -- One step after the other. Assumes nothing.
-use borrow.Author.Rules.{rules}
-use Rattle.std.proofs.Common.{◌≡◌, sym, ◌∙◌, subst, ℕ, ◌-◌, ◌+◌, take, drop, arith}
-use mathlib.Core.Bool.{true, false}
+use Rattle.std.proofs.Common.{◌≡◌, sym, ap, ◌∙◌, subst, ℕ, ◌-◌, ◌+◌, take, drop, arith, rules, true, false}
 use Rattle.item.proofs.Headers.{no_header}
 use Rattle.record.specs.Read.{in_item, step_in}
 use Rattle.record.specs.Contract.{is_step}
 use Rattle.record.proofs.Chains.{no_item, content-read, content-refused, steps-end, steps-fail, steps_next}
 use Rattle.record.proofs.Headers.{is-ok, is-err, no-content-at, content-here, content-other}
 use Rattle.record.proofs.Invariants.{Left, left-start}
-use Rattle.record.proofs.Turns.{turn, stop}
+use Rattle.item.proofs.Turns.{turn, stop}
 use Rattle.record.proofs.steps.Goals as goal
 
 pub loop-item-init : goal.loop-item-init
@@ -19,13 +17,13 @@ loop-item-init c =
       to = search rules;
       inside = omega arith;
       few = omega arith;
-      left = subst (λ (n : ℕ). Left (in_item 19 step_in) c.args.s.now n 0) (sym start) left-start;
+      left = subst (λ (n : ℕ). Left (in_item 19 step_in) c.args.s.bytes.now n 0) (sym start) left-start;
     }
 
 pub returns-in_err-item : goal.returns-in_err-item
 returns-in_err-item c =
     let i = c.loop-item.invariant in
-    let s = c.args.s.now in
+    let s = c.args.s.bytes.now in
     let at = c.loop-item.item-iterator.at in
     let t = stop _ _ i.bytes i.to c.in-Some.ensures.steps (is-err (sym c.in_err-item.was ∙ c.ok.ensures.value)).1 in
     rw c.from_residual.ensures (steps-fail i.left t.before (no_item 19 step_in (drop at s) (no-content-at 19 s at (no_header s at t.is))))
@@ -33,46 +31,37 @@ returns-in_err-item c =
 pub returns-then-item : goal.returns-then-item
 returns-then-item c =
     let i = c.loop-item.invariant in
-    let s = c.args.s.now in
+    let s = c.args.s.bytes.now in
     let at = c.loop-item.item-iterator.at in
     let t = turn _ _ i.bytes i.to c.in-Some.ensures.steps (is-ok (sym c.in_ok-item.was ∙ c.ok.ensures.value)) in
     steps-fail i.left t.before (no_item 19 step_in (drop at s) (content-other 19 s at t.is c.if-item.true))
 
-pub slice_bounds-step_content-count : goal.slice_bounds-step_content-count
-slice_bounds-step_content-count c =
+pub slice-requires : goal.slice-requires
+slice-requires c =
     let i = c.loop-item.invariant in
-    (turn _ _ i.bytes i.to c.in-Some.ensures.steps (is-ok (sym c.in_ok-item.was ∙ c.ok.ensures.value))).spans.order
-
-pub slice_bounds-step_content-start : goal.slice_bounds-step_content-start
-slice_bounds-step_content-start c =
-    let i = c.loop-item.invariant in
-    (turn _ _ i.bytes i.to c.in-Some.ensures.steps (is-ok (sym c.in_ok-item.was ∙ c.ok.ensures.value))).spans.order
-
-pub slice_bounds-step_content-end : goal.slice_bounds-step_content-end
-slice_bounds-step_content-end c =
-    let i = c.loop-item.invariant in
-    (turn _ _ i.bytes i.to c.in-Some.ensures.steps (is-ok (sym c.in_ok-item.was ∙ c.ok.ensures.value))).spans.fits
+    let t = turn _ _ i.bytes i.to c.in-Some.ensures.steps (is-ok (sym c.in_ok-item.was ∙ c.ok.ensures.value)) in
+    (t.places.order, t.places.fits)
 
 pub returns-in_err-step_content : goal.returns-in_err-step_content
 unfolding is_step
 returns-in_err-step_content c =
     let i = c.loop-item.invariant in
-    let s = c.args.s.now in
+    let s = c.args.s.bytes.now in
     let at = c.loop-item.item-iterator.at in
     let to = c.in_ok-item.item.to in
     let t = turn _ _ i.bytes i.to c.in-Some.ensures.steps (is-ok (sym c.in_ok-item.was ∙ c.ok.ensures.value)) in
-    let bad = subst (λ (n : ℕ). is_step (take (to - n) (drop n s)) ≡ false) t.spans.start (sym c.in_err-step_content.ensures) in
+    let bad = subst (λ (n : ℕ). is_step (take (to - n) (drop n s)) ≡ false) t.places.start (ap is_step (sym c.slice.ensures) ∙ sym c.in_err-step_content.ensures) in
     rw c.from_residual-in_err-step_content.ensures (steps-fail i.left t.before (content-refused step_in (content-here 19 s at t.is c.if-item.false) bad))
 
 pub loop-item-preserved : goal.loop-item-preserved
 unfolding is_step
 loop-item-preserved c =
     let i = c.loop-item.invariant in
-    let s = c.args.s.now in
+    let s = c.args.s.bytes.now in
     let at = c.loop-item.item-iterator.at in
     let to = c.in_ok-item.item.to in
     let t = turn _ _ i.bytes i.to c.in-Some.ensures.steps (is-ok (sym c.in_ok-item.was ∙ c.ok.ensures.value)) in
-    let good = subst (λ (n : ℕ). is_step (take (to - n) (drop n s)) ≡ true) t.spans.start (sym c.in_ok-step_content.ensures) in
+    let good = subst (λ (n : ℕ). is_step (take (to - n) (drop n s)) ≡ true) t.places.start (ap is_step (sym c.slice.ensures) ∙ sym c.in_ok-step_content.ensures) in
     let r = content-read step_in (content-here 19 s at t.is c.if-item.false) good in
     record {
       bytes = t.bytes;

@@ -1,6 +1,7 @@
 -- One item, nothing behind it, and its fields. Assumes nothing.
-use Rattle.std.proofs.Common.{◌∙◌, ◌≤◌, length, arith}
+use Rattle.std.proofs.Common.{ap, ◌∙◌, ◌≤◌, length, arith}
 use Rattle.refusal.specs.Base.{limit}
+use Rattle.record.specs.Contract.{meaning_steps}
 use Rattle.record.proofs.Chains.{too-long, no-record, record-behind, record-last}
 use Rattle.record.proofs.whole.Goals as goal
 
@@ -20,4 +21,4 @@ returns-then-end-record c =
 pub returns : goal.returns
 returns c =
     let h : length c.args.«record».now ≤ limit = omega arith in
-    c.fields.ensures ∙ record-last c.args.«record».now h c.in_ok-end.ensures c.if-end-record.false
+    c.fields.ensures ∙ ap meaning_steps c.slice.ensures ∙ record-last c.args.«record».now h c.in_ok-end.ensures c.if-end-record.false

@@ -4,12 +4,6 @@ use Rattle.step_lines.specs.StepLines.{step_lines}
 use Rattle.scenario.proofs.Writing.{top-refused, steps-refused, record-wrote}
 use Rattle.scenario.proofs.put_record.Goals as goal
 
-pub put_top-requires : goal.put_top-requires
-put_top-requires c = (c.requires, c.in_ok-top.ensures.inside)
-
-pub put_steps-requires : goal.put_steps-requires
-put_steps-requires c = (c.in_ok-top.ensures.inside.steps, c.requires)
-
 pub returns-in_err-top-clause-whole : goal.returns-in_err-top-clause-whole
 returns-in_err-top-clause-whole c = λ y g st.
     let e = err_from_is_err_and c.from_residual.result c.from_residual.ensures.1 in

@@ -1,5 +1,5 @@
 -- By the tree, the record, and the room for both outputs. Assumes nothing.
-use Rattle.std.proofs.Common.{◌≡◌, length, take, refl, arith, rules}
+use Rattle.std.proofs.Common.{length, take, refl, arith, rules}
 use Rattle.std.proofs.lemmas.Result.{err_from_is_err_and}
 use Rattle.lines.specs.Table.{table_lines}
 use Rattle.tree.proofs.Sound.{tree-integers}
@@ -11,11 +11,6 @@ returns-in_err-tree c =
     let a = c.args in
     let e = err_from_is_err_and c.from_residual.result c.from_residual.ensures.1 in
     rw (e.1, e.2) (scenario-untree (length a.work.now) (length a.«record».now) (length a.lines.now) a.text.now _ c.in_err-tree.ensures)
-
-pub put_record-requires : goal.put_record-requires
-put_record-requires c =
-    let wide : length c.read_with.new.out ≡ length c.args.work.now = c.read_with.auto.out in
-    omega (arith, wide, c.requires.0)
 
 pub returns-in_err-steps : goal.returns-in_err-steps
 returns-in_err-steps c =

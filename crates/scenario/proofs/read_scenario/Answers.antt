@@ -1,29 +1,8 @@
 -- The first places of each output are lent, and what is left in them is said of all. Assumes nothing.
-use Rattle.std.proofs.Common.{◌≤◌, length, Ok, Err, sym, ◌∙◌, arith, rules}
-use lib.Seq.{length-take-le}
+use Rattle.std.proofs.Common.{◌≤◌, length, Ok, Err, ◌∙◌, arith, rules}
 use Rattle.scenario.specs.Scenario.{scenario, tree_bytes, record_bytes, step_numbers}
 use Rattle.scenario.proofs.Reading.{lent_is, read_told, tree-out, record-out, lines-out, refused_told, zeros-out}
 use Rattle.scenario.proofs.read_scenario.Goals as goal
-
-pub slice_bounds-read-end-2 : goal.slice_bounds-read-end-2
-slice_bounds-read-end-2 c = sym (length-take-le _ _ (search rules))
-
-pub slice_bounds-read-end-4 : goal.slice_bounds-read-end-4
-slice_bounds-read-end-4 c = sym (length-take-le _ _ (search rules))
-
-pub slice_bounds-read-end-6 : goal.slice_bounds-read-end-6
-slice_bounds-read-end-6 c = sym (length-take-le _ _ (search rules))
-
-pub read-requires : goal.read-requires
-read-requires c =
-    let a = c.args in
-    let cw = c.counted-w in
-    let cr = c.counted-r in
-    let cl = c.counted-l in (
-      omega (arith, cw.ensures, length-take-le cw.result a.work.now (search rules)),
-      omega (arith, cr.ensures, length-take-le cr.result a.«record».now (search rules)),
-      omega (arith, cl.ensures, length-take-le cl.result a.lines.now (search rules)),
-    )
 
 pub returns-in-Ok : goal.returns-in-Ok
 returns-in-Ok c =

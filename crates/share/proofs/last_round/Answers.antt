@@ -7,4 +7,4 @@ loop-i-preserved c =
     let l = c.loop-i in
     let a = c.args in
     let t = c.loop-i-test.true in
-    (omega arith, rw (c.stroke-more.ensures, c.min-got.ensures) (stored_more _ (omega arith) (rw (round_next a.wishes.now l.i a.rounds.whole l.left t) at l.invariant.1)))
+    (omega arith, rw (c.stroke-more.ensures, c.min-got.ensures) (stored_more _ (omega arith) (rw (round_next a.wishes.each.now l.i a.rounds.whole l.left t) at l.invariant.1)))

@@ -7,4 +7,4 @@ use Rattle.share.proofs.last_round.Given as goal
 abbrev pub invariant-loop-i : goal.invariant-loop-i
 invariant-loop-i l =
     (l.i ≤ l.i-end)
-    × Stored (gots (round l.initial.left (up_to l.rounds.whole l.wishes))) l.strokes l.i (gots (round l.left (up_to l.rounds.whole (drop l.i l.wishes))))
+    × Stored (gots (round l.initial.left (up_to l.rounds.whole l.wishes.each.now))) l.strokes l.i (gots (round l.left (up_to l.rounds.whole (drop l.i l.wishes.each.now))))

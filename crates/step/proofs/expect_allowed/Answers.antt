@@ -1,6 +1,5 @@
 -- A key that was not found, or the command's key. Assumes nothing.
-use mathlib.Core.Path.{sym, ap, ◌∙◌, subst}
-use mathlib.Core.Bool.{Bool, not}
+use Rattle.std.proofs.Common.{sym, ap, ◌∙◌, subst, Bool, not}
 use Rattle.refusal.specs.Base.{ensure}
 use Rattle.entries.specs.Entries.{Finds}
 use Rattle.step.specs.Contract.{mapping}

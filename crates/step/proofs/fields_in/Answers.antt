@@ -1,24 +1,15 @@
-use Rattle.std.proofs.Common.{rules, arith, ℕ, sym, subst}
+use Rattle.std.proofs.Common.{rules, arith, sym, subst}
 use Rattle.refusal.specs.Base.{bytes}
 use Rattle.item.specs.declared.Found.{Found}
-use Rattle.entries.specs.Entries.{Holds}
 use Rattle.entries.proofs.Walking.{step, stop, turn, no-entry}
 use Rattle.step.specs.declared.Command.{Command}
 use Rattle.step.specs.declared.StepFields.{StepFields}
 use Rattle.step.specs.Contract.{FieldsInside}
-use Rattle.step.proofs.Commands.{Left, more-fields, walk_start, walk_end, walk-on, inside_on}
+use Rattle.step.proofs.Commands.{Left, more-fields, walk_end, walk-on, inside_on}
 use Rattle.step.proofs.fields_in.Goals as goal
 
 abbrev fields_of : Found → Found → Found → Found → Found → Command → StepFields
 fields_of name id timeout continues expect command = record { name = name; id = id; timeout = timeout; continues = continues; expect = expect; command = command }
-
-pub loop-pair-init : goal.loop-pair-init
-loop-pair-init c = (
-  search rules,
-  search rules,
-  record { name = tt; id = tt; timeout = tt; continue = tt; expect = tt; command = tt },
-  λ es h. walk_start es (subst (λ (n : ℕ). Holds c.args.s.now n c.args.to es) (search rules) h),
-)
 
 pub loop-pair-preserved : goal.loop-pair-preserved
 unfolding bytes
@@ -43,10 +34,10 @@ loop-pair-preserved c =
     c.command_with-command.ensures in (
       t.bytes,
       t.end,
-      subst (FieldsInside a.s.now) (sym e) (inside_on _ f _ _ _ q.key (omega (arith, q.value, q.inside)) v.invariant.2),
+      subst (FieldsInside a.part.bytes.now) (sym e) (inside_on _ f _ _ _ q.key (omega (arith, q.value, q.inside)) v.invariant.2),
       λ es h.
           let l = v.invariant.3 es h in
-          rw t.next (subst (Left a.s.now a.to p.next es) (sym e) (walk-on l (turn l.rest (search rules) t.before t.is l.holds.lies))),
+          rw t.next (subst (Left a.part.bytes.now a.part.to p.next es) (sym e) (walk-on l (turn l.rest (search rules) t.before t.is l.holds.lies))),
     )
 
 pub returns-in_default-clause-fields : goal.returns-in_default-clause-fields

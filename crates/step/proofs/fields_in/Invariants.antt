@@ -14,5 +14,5 @@ fields_of name id timeout continues expect command = record { name = name; id = 
 
 abbrev pub invariant-loop-pair : goal.invariant-loop-pair
 invariant-loop-pair l =
-    (l.pair-iterator.bytes.now ≡ l.s) × (l.pair-iterator.to ≡ l.to) × FieldsInside l.s (fields_of l.name l.id l.timeout l.continues l.expect l.command)
-    × ((es : Entries) → Holds l.s l.from l.to es → Left l.s l.to l.pair-iterator.at es (fields_of l.name l.id l.timeout l.continues l.expect l.command))
+    (l.pair-iterator.bytes.now ≡ l.part.bytes.now) × (l.pair-iterator.to ≡ l.part.to) × FieldsInside l.part.bytes.now (fields_of l.name l.id l.timeout l.continues l.expect l.command)
+    × ((es : Entries) → Holds l.part.bytes.now l.part.from l.part.to es → Left l.part.bytes.now l.part.to l.pair-iterator.at es (fields_of l.name l.id l.timeout l.continues l.expect l.command))

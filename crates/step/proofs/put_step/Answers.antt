@@ -1,7 +1,18 @@
 -- The parts one behind another, and the header in front of them. Assumes nothing.
-use Rattle.nodes.proofs.Writing.{writes_is}
+use Rattle.std.proofs.Common.{arith, ◌+◌, ◌^◌}
+use Rattle.item.specs.Encode.{encode}
+use Rattle.nodes.proofs.Writing.{writes_is, most_more, item_most, item_less}
 use Rattle.step.proofs.Writing.{key_item, value-read, flag_item, expected-read, step-written}
 use Rattle.step.proofs.put_step.Goals as goal
+
+pub returns-clause-goes : goal.returns-clause-goes
+unfolding encode
+returns-clause-goes c =
+    let key = item_most (6 + 2 ^ 20) _ _ c.text.ensures (omega (arith, c.requires, c.args.s.short)) in
+    let continues = item_most 7 _ _ c.bool.ensures (omega arith) in
+    let front = most_more (most_more c.put_found.ensures.goes c.put_found-2.ensures.goes) key in
+    let parts = most_more (most_more (most_more (most_more front c.put_value.ensures.goes) c.put_optional.ensures.goes) continues) c.put_value-2.ensures.goes in
+    item_less _ c.open-header.ensures parts c.close.ensures (omega arith)
 
 pub returns-clause-step : goal.returns-clause-step
 returns-clause-step c = λ step st.

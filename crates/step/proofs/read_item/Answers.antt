@@ -1,6 +1,7 @@
 -- A mapping, then its entries. Assumes nothing.
 use Rattle.std.proofs.Common.{sym, ◌∙◌}
 use Rattle.entries.proofs.Values.{entries-of}
+use Rattle.nodes.proofs.Items.{part_holds}
 use Rattle.meaning.specs.Meanings.{step_at}
 use Rattle.step.proofs.Steps.{step-32}
 use Rattle.step.proofs.read_item.Goals as goal
@@ -12,4 +13,4 @@ pub returns-clause-step : goal.returns-clause-step
 unfolding step_at
 returns-clause-step c = λ y g i.
     let m = entries-of y g i.stands i.ends (sym i.kind_is ∙ c.if-not-is_mapping.false) in
-    rw m.is (c.read_entries.ensures.step m.entries m.holds)
+    rw (← c.part.ensures.bytes, m.is) (c.read_entries.ensures.step m.entries (part_holds c.part.ensures.bytes c.part.ensures.places m.holds))

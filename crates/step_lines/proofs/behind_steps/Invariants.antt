@@ -1,6 +1,5 @@
 -- The invariant: what stands behind the line of the steps is the same from here on. Assumes nothing.
-use mathlib.Core.Path.{◌≡◌}
-use lib.ListN.{drop}
+use Rattle.std.proofs.Common.{◌≡◌, drop}
 use Rattle.step_lines.specs.StepLines.{behind_steps}
 use Rattle.step_lines.proofs.behind_steps.Given as goal
 

@@ -1,6 +1,5 @@
 -- The invariant: the dashes from here on are those from the start on. Assumes nothing.
-use mathlib.Core.Path.{◌≡◌}
-use lib.ListN.{drop}
+use Rattle.std.proofs.Common.{◌≡◌, drop}
 use Rattle.step_lines.specs.StepLines.{dashes_at}
 use Rattle.step_lines.proofs.next_dash.Given as goal
 

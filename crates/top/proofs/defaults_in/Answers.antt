@@ -6,7 +6,7 @@ use Rattle.top.proofs.defaults_in.Goals.{in-Timeout, in-WallBudget}
 use Rattle.top.proofs.defaults_in.Goals as goal
 
 pub loop-pair-init : goal.loop-pair-init
-loop-pair-init c = (search rules, search rules, tt, tt, λ es h. defaults-start es (subst (λ (n : ℕ). Holds c.args.s.now n c.args.to es) (search rules) h))
+loop-pair-init c = (search rules, search rules, tt, tt, λ es h. defaults-start es (subst (λ (n : ℕ). Holds c.args.part.bytes.now n c.args.part.to es) (search rules) h))
 
 pub returns-in_default-clause-defaults : goal.returns-in_default-clause-defaults
 returns-in_default-clause-defaults c = λ es h.

@@ -7,5 +7,5 @@ use Rattle.top.proofs.defaults_in.Given as goal
 
 abbrev pub invariant-loop-pair : goal.invariant-loop-pair
 invariant-loop-pair l =
-    (l.pair-iterator.bytes.now ≡ l.s) × (l.pair-iterator.to ≡ l.to) × FoundInside l.s l.timeout × FoundInside l.s l.wall_budget
-    × ((es : Entries) → Holds l.s l.from l.to es → DefaultsRest l.s l.to l.pair-iterator.at es l.timeout l.wall_budget)
+    (l.pair-iterator.bytes.now ≡ l.part.bytes.now) × (l.pair-iterator.to ≡ l.part.to) × FoundInside l.part.bytes.now l.timeout × FoundInside l.part.bytes.now l.wall_budget
+    × ((es : Entries) → Holds l.part.bytes.now l.part.from l.part.to es → DefaultsRest l.part.bytes.now l.part.to l.pair-iterator.at es l.timeout l.wall_budget)

@@ -1,6 +1,7 @@
 -- By the kind of the value. Assumes nothing.
 use Rattle.std.proofs.Common.{subst}
 use Rattle.refusal.specs.Base.{Answer}
+use Rattle.nodes.proofs.Items.{part_holds}
 use Rattle.meaning.specs.Meaning.{Defaults}
 use Rattle.top.specs.Contract.{AgreesDefaults}
 use Rattle.top.proofs.DefaultKeys.{defaults-empty, defaults-other, defaults-mapped, mapped-is}
@@ -16,4 +17,5 @@ pub returns-clause-defaults : goal.returns-clause-defaults
 returns-clause-defaults c = λ o h.
     let i = c.value_of-value.ensures.value o h in
     let m = defaults-mapped o i c.if-not-is_mapping.false in
-    subst (λ (a : Answer Defaults). AgreesDefaults c.args.s.now a c.defaults_in.result) (mapped-is o i c.if-not-is_mapping.false) (c.defaults_in.ensures.defaults m.entries m.holds)
+    subst (λ (a : Answer Defaults). AgreesDefaults c.args.s.bytes.now a c.defaults_in.result) (mapped-is o i c.if-not-is_mapping.false)
+    (rw c.part.ensures.bytes at (c.defaults_in.ensures.defaults m.entries (part_holds c.part.ensures.bytes c.part.ensures.places m.holds)))

@@ -1,12 +1,6 @@
 -- Only a string can be it. Assumes nothing.
-use Rattle.refusal.specs.Base.{bytes}
-use Rattle.meaning.specs.Meanings.{schema}
 use Rattle.top.proofs.Values.{other-schema}
 use Rattle.top.proofs.is_schema.Goals as goal
 
 pub returns-in_default : goal.returns-in_default
 returns-in_default c = other-schema c.args.scalar c.in_default.not-Str
-
-pub returns : goal.returns
-unfolding schema bytes
-returns c = rw c.in-Str.is c.same_bytes.ensures

@@ -25,7 +25,7 @@ loop-pair-preserved c =
       t.end,
       λ es h.
           let k = i.2 es h in
-          subst (λ (n : ℕ). KnownRest c.args.s.now c.args.to n es) (sym t.next)
+          subst (λ (n : ℕ). KnownRest c.args.part.bytes.now c.args.part.to n es) (sym t.next)
           (known_on k (turn k.rest (search rules) t.before t.is k.lies) (sym c.if-not-is_top_key.false ∙ c.is_top_key.ensures)),
     )
 

@@ -1,6 +1,7 @@
-use Rattle.std.proofs.Common.{rules, arith}
-use Rattle.nodes.proofs.Items.{item_step, item_stop, item_turn, no_item_here}
-use Rattle.nodes.proofs.Writing.{goes_more}
+use Rattle.std.proofs.Common.{rules, arith, ◌^◌}
+use Rattle.item.proofs.Turns.{turn, stop}
+use Rattle.nodes.proofs.Items.{item_turn, no_item_here, same_item}
+use Rattle.nodes.proofs.Writing.{most_more, item_most, most_less}
 use Rattle.top.proofs.Tags.{tag-on, no-tag-on, tags-done}
 use Rattle.top.proofs.put_tags.Goals.{in-None, in-Some+in_default}
 use Rattle.top.proofs.put_tags.Goals as goal
@@ -8,40 +9,42 @@ use Rattle.top.proofs.put_tags.Goals as goal
 pub scalar_of-requires : goal.scalar_of-requires
 scalar_of-requires c =
     let i = c.loop-item.invariant in
-    let t = item_step _ _ i.0 i.1 c.in-Some.ensures.steps c.in-Ok.is in
-    (t.spans.order, t.spans.fits)
+    let t = turn _ _ i.0 i.1 c.in-Some.ensures.steps c.in-Ok.is in
+    rw c.encoded-s.ensures (t.places.order, t.places.fits)
 
 pub loop-item-preserved-in-Some-scalar_of : goal.loop-item-preserved-in-Some-scalar_of
 loop-item-preserved-in-Some-scalar_of c =
     let i = c.loop-item.invariant in
-    let t = item_step _ _ i.0 i.1 c.in-Some.ensures.steps c.in-Ok.is in (
+    let t = turn _ _ i.0 i.1 c.in-Some.ensures.steps c.in-Ok.is in (
       t.bytes,
       t.end,
-      goes_more i.2 c.scalar.ensures.goes,
+      omega (arith, i.2, t.places.order, t.places.start, t.next),
+      most_less _ (most_more i.3 (item_most (2 ^ 21) _ _ c.scalar.ensures (omega (arith, c.in-Some-scalar_of.ensures.short)))) (omega (arith, i.2, t.before, t.next, t.places.start, t.places.order)),
       λ ys h.
-          let k = i.3 ys h in
+          let k = i.4 ys h in
           let e = item_turn k.rest (search rules) k.holds t in
-          rw t.next (tag-on k e (c.in-Some-scalar_of.ensures e.first.y e.first.ranged e.item_is) c.scalar.ensures),
+          rw t.next (tag-on k e (c.in-Some-scalar_of.ensures.text e.first.y e.first.ranged (same_item c.encoded-s.ensures e.item_is)) c.scalar.ensures),
     )
 
 pub loop-item-preserved : goal.loop-item-preserved
 loop-item-preserved c =
     let i = c.loop-item.invariant in
-    let t = item_step _ _ i.0 i.1 c.in-Some.ensures.steps c.in-Ok.is in (
+    let t = turn _ _ i.0 i.1 c.in-Some.ensures.steps c.in-Ok.is in (
       t.bytes,
       t.end,
-      i.2,
+      omega (arith, i.2, t.places.order, t.places.start, t.next),
+      most_less _ i.3 (omega (arith, i.2, t.before, t.next, t.places.start, t.places.order)),
       λ ys h.
-          let k = i.3 ys h in
+          let k = i.4 ys h in
           let e = item_turn k.rest (search rules) k.holds t in
-          rw t.next (no-tag-on k e (c.in_default-scalar_of.ensures e.first.y e.first.ranged e.item_is)),
+          rw t.next (no-tag-on k e (c.in_default-scalar_of.ensures.text e.first.y e.first.ranged (same_item c.encoded-s.ensures e.item_is))),
     )
 
 pub returns-clause-tags : goal.returns-clause-tags
 returns-clause-tags c = λ ys h.
     let i = c.loop-item.invariant in
-    let k = i.3 ys h in
+    let k = i.4 ys h in
     elim c.match-next.branch [
       | in-None w ↦ tags-done (omega (arith, i.1, w.in-None.ensures.steps.0)) c.open-header.ensures k c.close.ensures
-      | in-Some+in_default w ↦ no_item_here k.rest (search rules) k.holds (item_stop _ _ i.0 i.1 w.in-Some.ensures.steps w.in_default.is)
+      | in-Some+in_default w ↦ no_item_here k.rest (search rules) k.holds (stop _ _ i.0 i.1 w.in-Some.ensures.steps w.in_default.is)
     ]

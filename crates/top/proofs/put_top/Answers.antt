@@ -1,9 +1,15 @@
 -- One field after the other. Assumes nothing.
-use Rattle.std.proofs.Common.{ap, sym}
+use Rattle.std.proofs.Common.{arith, ap, sym}
 use Rattle.meaning.specs.Record.{tags_item}
-use Rattle.nodes.proofs.Writing.{writes_is}
-use Rattle.top.proofs.Parts.{sequence-written, fields-written}
+use Rattle.nodes.proofs.Writing.{writes_is, most_less, most_more}
+use Rattle.top.proofs.Parts.{sequence-most, sequence-written, fields-written}
 use Rattle.top.proofs.put_top.Goals as goal
+
+pub returns-clause-goes : goal.returns-clause-goes
+returns-clause-goes c =
+    let front = most_more (most_more (most_more c.put_found.ensures.goes c.put_found-2.ensures.goes) c.put_tags.ensures.goes) c.put_found-3.ensures.goes in
+    most_less _ (most_more (most_more (most_more front c.put_value.ensures.goes) c.put_defaults.ensures.goes) (sequence-most _ c.args.top.fail_on.inside c.put_sequence.ensures))
+    (omega (arith, c.args.top.tags.inside))
 
 pub returns-clause-fields : goal.returns-clause-fields
 returns-clause-fields c = λ t st.

@@ -10,6 +10,6 @@ pub returns-clause-items : goal.returns-clause-items
 returns-clause-items c = λ o h.
     let i = c.value_of-value.ensures.value o h in
     elim c.else-not-is_null.branch [
-      | else-not-is_null-via-then-not-is_null+else-not-is_sequence w ↦ sequence-there o i w.if-not-is_sequence.false
-      | else-not-is_null-via-else-not-is_null w ↦ sequence-empty o i w.if-not-is_null.false
+      | else-not-is_null-via-then-not-is_null+else-not-is_sequence w ↦ sequence-there o i c.part.ensures.bytes c.part.ensures.places w.if-not-is_sequence.false
+      | else-not-is_null-via-else-not-is_null w ↦ sequence-empty o i c.part.ensures.bytes c.part.ensures.places w.if-not-is_null.false
     ]

@@ -1,9 +1,7 @@
 -- What was found, by its item; else null. Assumes nothing.
-use Rattle.std.proofs.Common.{Some, None, Option as Maybe}
+use Rattle.std.proofs.Common.{Some, None, Option as Maybe, List, ℕ}
+use Rattle.std.proofs.Math.Option.{Option}
 use Rattle.std.specs.Option.{unwrap_or}
-use mathlib.Core.Option.{Option}
-use mathlib.Core.List.{List}
-use Prim.Native.Nat.{ℕ}
 use Rattle.item.specs.Tree.{Yaml}
 use Rattle.item.specs.declared.Item.{Item}
 use Rattle.nodes.specs.Contract.{FindsItem, or_null}
@@ -16,4 +14,4 @@ read_as s o (Some item) f = found_value f
 read_as s o None e = absent-value s o e
 
 pub returns-clause-value : goal.returns-clause-value
-returns-clause-value c = λ o h. rw c.unwrap_or.ensures (read_as c.args.s.now o c.item_found.result (c.item_found.ensures.item o h))
+returns-clause-value c = λ o h. rw c.unwrap_or.ensures (read_as c.args.s.bytes.now o c.item_found.result (c.item_found.ensures.item o h))

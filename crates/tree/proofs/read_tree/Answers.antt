@@ -1,17 +1,7 @@
 -- The first bytes of the work are lent, and what is left in them is said of all. Assumes nothing.
-use mathlib.Core.Path.{sym, ◌∙◌}
-use native.Mathlib.Omega.{arith}
-use lib.Seq.{length-take-le}
+use Rattle.std.proofs.Common.{◌∙◌}
 use Rattle.tree.proofs.Reading.{told-size, told-bytes, told-refusal, told-zeros}
 use Rattle.tree.proofs.read_tree.Goals as goal
-
-pub slice_bounds-read_with-end-2 : goal.slice_bounds-read_with-end-2
-slice_bounds-read_with-end-2 c = sym (length-take-le _ _ (omega arith))
-
-pub read_with-requires : goal.read_with-requires
-read_with-requires c =
-    let n = c.counted-n in
-    omega (arith, n.ensures, length-take-le n.result c.args.work.now (omega arith))
 
 pub returns-in-Ok-clause-answer : goal.returns-in-Ok-clause-answer
 returns-in-Ok-clause-answer c =

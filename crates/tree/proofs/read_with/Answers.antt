@@ -1,24 +1,11 @@
 -- By the order of the refusals: 1, 2, the lines, the value. Assumes nothing.
-use mathlib.Core.Path.{sym, ap, ◌∙◌, subst}
-use mathlib.Core.List.{List}
-use native.Mathlib.Omega.{arith}
-use lib.ListN.{length}
+use Rattle.std.proofs.Common.{sym, ap, ◌∙◌, subst, List, arith, length}
 use Rattle.std.proofs.lemmas.Result.{err_from_is_err_and}
 use Rattle.lines.specs.Lines.{Line}
 use Rattle.tree.specs.Tree.{tree_of}
 use Rattle.tree.specs.Contract.{WroteTree}
-use Rattle.tree.proofs.Reading.{tree-long, tree-bytes, tree-unlined, tree-lined, read-lined}
+use Rattle.tree.proofs.Reading.{tree-unlined, tree-lined, read-lined}
 use Rattle.tree.proofs.read_with.Goals as goal
-
-pub returns-then-is_long : goal.returns-then-is_long
-returns-then-is_long c =
-    let a = c.args in
-    tree-long (length a.out.now) a.text.now (omega (arith, c.if-is_long.true))
-
-pub returns-then-not-is_utf8 : goal.returns-then-not-is_utf8
-returns-then-not-is_utf8 c =
-    let a = c.args in
-    tree-bytes (length a.out.now) a.text.now (omega (arith, c.if-is_long.false)) (sym c.is_utf8.ensures ∙ c.if-not-is_utf8.true)
 
 pub returns-in_err-count : goal.returns-in_err-count
 returns-in_err-count c =

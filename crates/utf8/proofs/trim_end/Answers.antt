@@ -1,9 +1,4 @@
-use borrow.Author.Rules.{rules}
-use mathlib.Core.Path.{refl, sym, ap, ◌∙◌}
-use mathlib.Core.List.{List}
-use Prim.Native.Nat.{ℕ, ◌+◌}
-use native.Mathlib.Omega.{arith}
-use lib.ListN.{length}
+use Rattle.std.proofs.Common.{rules, refl, sym, ap, ◌∙◌, List, ℕ, ◌+◌, arith, length}
 use Rattle.utf8.proofs.Turns.{end_turn, end_end, ends_none, visible_last}
 use Rattle.utf8.proofs.trim_end.Goals as goal
 

@@ -1,6 +1,5 @@
 -- `trim_end` meets its contract: a white space character at the end is trimmed, and where none is, nothing is. Assumes nothing.
-use mathlib.Core.Path.{◌≡◌}
-use Prim.Native.Nat.{◌≤◌}
+use Rattle.std.proofs.Common.{◌≡◌, ◌≤◌}
 use Rattle.utf8.specs.White.{trim_end}
 use Rattle.utf8.specs.Part.{part}
 use Rattle.utf8.proofs.trim_end.Given as goal

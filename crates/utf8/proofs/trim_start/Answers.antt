@@ -1,5 +1,4 @@
-use borrow.Author.Rules.{rules}
-use mathlib.Core.Path.{refl, sym, ◌∙◌}
+use Rattle.std.proofs.Common.{rules, refl, sym, ◌∙◌}
 use Rattle.utf8.proofs.Turns.{white_nil, start_turn, start_end, visible_first}
 use Rattle.utf8.proofs.trim_start.Goals as goal
 

@@ -1,6 +1,5 @@
 -- `trim_start` meets its contract: what is leading from `from` is what lies before `at` and what is leading from there. Assumes nothing.
-use mathlib.Core.Path.{◌≡◌}
-use Prim.Native.Nat.{◌+◌, ◌-◌, ◌≤◌}
+use Rattle.std.proofs.Common.{◌≡◌, ◌+◌, ◌-◌, ◌≤◌}
 use Rattle.utf8.specs.White.{leading}
 use Rattle.utf8.specs.Part.{part}
 use Rattle.utf8.proofs.trim_start.Given as goal

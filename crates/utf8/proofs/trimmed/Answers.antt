@@ -1,7 +1,5 @@
 -- The text is the part from 0 to its length. Assumes nothing.
-use mathlib.Core.Path.{sym, ap, ◌∙◌}
-use native.Mathlib.Omega.{arith}
-use lib.ListN.{length}
+use Rattle.std.proofs.Common.{sym, ap, ◌∙◌, arith, length}
 use Rattle.utf8.specs.White.{trim}
 use Rattle.utf8.proofs.Laws.{part-all, trim-part}
 use Rattle.utf8.proofs.trimmed.Goals as goal

@@ -13,7 +13,7 @@ abbrev pub decreases-value : goal.decreases-value
 decreases-value l = 2 * l.levels
 
 abbrev pub invariant-entries-loop-key : goal.invariant-entries-loop-key
-invariant-entries-loop-key l = (l.walk.bytes.now ≡ l.s) × (l.walk.to ≡ length l.s) × Entries-left l.levels l.s l.walk.at
+invariant-entries-loop-key l = (l.walk.bytes.now ≡ l.s.bytes.now) × (l.walk.to ≡ length l.s.bytes.now) × Entries-left l.levels l.s.bytes.now l.walk.at
 
 abbrev pub invariant-items-loop-item : goal.invariant-items-loop-item
-invariant-items-loop-item l = (l.item-iterator.bytes.now ≡ l.s) × (l.item-iterator.to ≡ length l.s) × Items-left l.levels l.s l.item-iterator.at
+invariant-items-loop-item l = (l.item-iterator.bytes.now ≡ l.s.bytes.now) × (l.item-iterator.to ≡ length l.s.bytes.now) × Items-left l.levels l.s.bytes.now l.item-iterator.at

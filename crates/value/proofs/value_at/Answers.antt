@@ -27,11 +27,11 @@ module _ (l : ℕ) (s : List ℕ) (at : ℕ) where
 pub returns-in_err-item : goal.returns-in_err-item
 returns-in_err-item c =
     let a = c.args in
-    subst (Walks (tree a.levels) a.s.now a.at) (sym c.from_residual.ensures)
-    (missing a.levels a.s.now a.at c.header_at.result c.header_at.ensures.value (sym c.in_err-item.was ∙ c.ok.ensures.value))
+    subst (Walks (tree a.levels) a.s.bytes.now a.at) (sym c.from_residual.ensures)
+    (missing a.levels a.s.bytes.now a.at c.header_at.result c.header_at.ensures.value (sym c.in_err-item.was ∙ c.ok.ensures.value))
 
 pub returns : goal.returns
 returns c =
     let a = c.args in
-    let h = found a.levels a.s.now a.at c.header_at.result c.header_at.ensures.value (sym c.in_ok-item.was ∙ c.ok.ensures.value) in
-    subst (Walks (tree a.levels) a.s.now a.at) (sym c.then_some.ensures) (judged a.levels a.s.now a.at h c.value.result c.value.ensures)
+    let h = found a.levels a.s.bytes.now a.at c.header_at.result c.header_at.ensures.value (sym c.in_ok-item.was ∙ c.ok.ensures.value) in
+    subst (Walks (tree a.levels) a.s.bytes.now a.at) (sym c.then_some.ensures) (judged a.levels a.s.bytes.now a.at h c.value.result (c.value.ensures ∙ ap (accepts _ _) c.slice.ensures))

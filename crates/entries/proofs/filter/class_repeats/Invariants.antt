@@ -9,5 +9,5 @@ use Rattle.entries.proofs.filter.class_repeats.Given as goal
 abbrev pub invariant-loop-pair : goal.invariant-loop-pair
 invariant-loop-pair l =
     let at = l.pair-iterator.at in
-    (l.pair-iterator.bytes.now ≡ l.s) × (l.pair-iterator.to ≡ l.to) × (l.from ≤ at) × (length l.seen ≡ 2048)
-    × ((es : Entries) → Lies l.s l.from l.to es → Passed l.s l.from l.to (of_class l.class l.last) es at l.seen)
+    (l.pair-iterator.bytes.now ≡ l.part.bytes.now) × (l.pair-iterator.to ≡ l.part.to) × (l.part.from ≤ at) × (length l.seen ≡ 2048)
+    × ((es : Entries) → Lies l.part.bytes.now l.part.from l.part.to es → Passed l.part.bytes.now l.part.from l.part.to (of_class l.class l.last) es at l.seen)

@@ -1,10 +1,5 @@
 -- A word with bits put into it. Assumes nothing.
-use borrow.Author.Rules.{rules}
-use mathlib.Core.Path.{sym, subst}
-use Prim.Native.Nat.{ℕ, ◌%◌}
-use lib.Bits.{bit_and, bit_or}
-use lib.Dec.{eqb}
-use lib.ListN.{get_or, set}
+use Rattle.std.proofs.Common.{rules, sym, subst, ℕ, ◌%◌, bit_and, bit_or, eqb, get_or, set}
 use Rattle.entries.specs.Contract.{Marked}
 use Rattle.entries.proofs.Bits.{marked}
 use Rattle.entries.proofs.filter.mark.Goals as goal

@@ -1,5 +1,4 @@
-use Rattle.std.proofs.Common.{rules, arith, ◌≡◌, ℕ, ◌+◌, ◌-◌, ◌≤◌, ◌<◌, ◌^◌, List, length, take, drop, sym, subst}
-use mathlib.Core.Logic.{inl, inr}
+use Rattle.std.proofs.Common.{rules, arith, ◌≡◌, ℕ, ◌+◌, ◌-◌, ◌≤◌, ◌<◌, ◌^◌, List, length, take, drop, sym, subst, inl, inr}
 use Rattle.entries.specs.Contract.{Run, Gap, Located, Inserted}
 use Rattle.entries.specs.declared.sorted.KeyPlace.{KeyPlace}
 use Rattle.entries.proofs.Walking.{turn, no-entry, step, stop}
@@ -14,14 +13,14 @@ grown {s} {run} {count = count} {index} {place} r h g m p =
 
 pub loop-pair-init : goal.loop-pair-init
 loop-pair-init c =
-    let e : c.into_iter-pair-iterator.result.at ≡ c.args.from = search rules in (
+    let e : c.into_iter-pair-iterator.result.at ≡ c.args.part.from = search rules in (
       search rules,
       search rules,
       omega arith,
       omega (arith, e),
       inl (omega (arith, e)),
       record { size = search rules; few = omega arith; rising = λ i j l h. absurd (omega arith) },
-      λ es h. subst (λ (n : ℕ). Chunked c.args.s.now c.args.run.now 0 c.args.to c.args.from n es) (sym e) (chunked-none _ es h),
+      λ es h. subst (λ (n : ℕ). Chunked c.args.part.bytes.now c.args.run.now 0 c.args.part.to c.args.part.from n es) (sym e) (chunked-none _ es h),
     )
 
 pub returns-in_default-clause-agrees_chunk : goal.returns-in_default-clause-agrees_chunk
@@ -43,7 +42,7 @@ loop-pair-preserved-then-count-lt-KEYS c =
     let i = c.loop-pair.invariant in
     let t = step _ _ i.0 i.1 c.in-Some.ensures.steps c.in-Ok.is in
     let free : Gap _ _ _ _ c.in-Err.index = subst (Located _ _ _ _) c.in-Err.is c.place_of.ensures in
-    let within : c.in-Ok.pair.end ≤ length c.args.s.now = omega (arith, t.places.value, t.places.inside) in (
+    let within : c.in-Ok.pair.end ≤ length c.args.part.bytes.now = omega (arith, t.places.value, t.places.inside) in (
       t.bytes,
       t.end,
       omega (arith, i.2, i.3, t.places.first, t.places.key, t.places.value),
@@ -51,7 +50,7 @@ loop-pair-preserved-then-count-lt-KEYS c =
       inl (omega (arith, t.next)),
       grown i.5 within free c.if-count-lt-KEYS.true c.insert.ensures,
       λ es h. let w = i.6 es h in
-          subst (λ (n : ℕ). Chunked c.args.s.now c.insert.new.run (c.loop-pair.count + 1) c.args.to c.in-Ok.pair.next n es) (sym t.next)
+          subst (λ (n : ℕ). Chunked c.args.part.bytes.now c.insert.new.run (c.loop-pair.count + 1) c.args.part.to c.in-Ok.pair.next n es) (sym t.next)
           (chunked-on w (turn w.rest (search rules) t.before t.is w.lies) free c.if-count-lt-KEYS.true c.insert.ensures (place-key _ _ within)),
     )
 
@@ -67,7 +66,7 @@ loop-pair-preserved c =
       inr (search rules),
       i.5,
       λ es h. let w = i.6 es h in
-          subst (λ (n : ℕ). Chunked c.args.s.now c.loop-pair.run c.loop-pair.count c.args.to c.loop-pair.behind n es) (sym t.next)
+          subst (λ (n : ℕ). Chunked c.args.part.bytes.now c.loop-pair.run c.loop-pair.count c.args.part.to c.loop-pair.behind n es) (sym t.next)
           (chunked-past w (turn w.rest (search rules) t.before t.is w.lies) free (search rules)),
     )
 

@@ -9,6 +9,6 @@ use Rattle.entries.proofs.sorted.chunk_repeats.Given as goal
 abbrev pub invariant-loop-pair : goal.invariant-loop-pair
 invariant-loop-pair l =
     let at = l.pair-iterator.at in
-    (l.pair-iterator.bytes.now ≡ l.s) × (l.pair-iterator.to ≡ l.to)
-    × (l.from + l.count ≤ l.behind) × (l.behind ≤ at) × ((at ≤ l.behind) ⊎ (2 ^ 11 ≤ l.count)) × Run l.s l.run l.count
-    × ((es : Entries) → Lies l.s l.from l.to es → Chunked l.s l.run l.count l.to l.behind at es)
+    (l.pair-iterator.bytes.now ≡ l.part.bytes.now) × (l.pair-iterator.to ≡ l.part.to)
+    × (l.part.from + l.count ≤ l.behind) × (l.behind ≤ at) × ((at ≤ l.behind) ⊎ (2 ^ 11 ≤ l.count)) × Run l.part.bytes.now l.run l.count
+    × ((es : Entries) → Lies l.part.bytes.now l.part.from l.part.to es → Chunked l.part.bytes.now l.run l.count l.part.to l.behind at es)

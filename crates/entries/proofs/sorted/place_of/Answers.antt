@@ -1,13 +1,17 @@
--- A binary search, by the order of keys. Assumes nothing.
-use Rattle.std.proofs.Common.{rules, of_calls}
-use Rattle.std.proofs.lemmas.Fn.{always_returns_same}
-use Rattle.entries.specs.Contract.{key_cmp, key_of}
-use Rattle.entries.proofs.Runs.{searched}
+-- The key in the middle is compared. Assumes nothing.
+use Rattle.std.proofs.Common.{rules, sym, ap, ◌∙◌}
+use Rattle.entries.specs.Contract.{key_cmp}
+use Rattle.entries.proofs.Runs.{between-same, between-right, between_left}
 use Rattle.entries.proofs.sorted.place_of.Goals as goal
 
-pub returns : goal.returns
-returns c =
-    let k = c.args.key.now in
-    let s = c.args.s.now in
-    searched c.requires k c.binary_search_by.result c.binary_search_by.ensures.bound
-    (c.binary_search_by.ensures.position (λ p. key_cmp (key_of s p) k) (always_returns_same _ _ _ (λ a r f k. search (rules, of_calls))))
+pub returns-in-Equal : goal.returns-in-Equal
+returns-in-Equal c =
+    between-same c.loop-low.invariant c.requires _ (search rules) (search rules) (ap (λ k. key_cmp k c.args.key.now) (sym c.key.ensures) ∙ sym c.compare.ensures ∙ c.in-Equal.is)
+
+pub loop-low-preserved-in-Less : goal.loop-low-preserved-in-Less
+loop-low-preserved-in-Less c =
+    between-right c.loop-low.invariant c.requires _ (search rules) (search rules) (ap (λ k. key_cmp k c.args.key.now) (sym c.key.ensures) ∙ sym c.compare.ensures ∙ c.in-Less.is)
+
+pub loop-low-preserved : goal.loop-low-preserved
+loop-low-preserved c =
+    between_left c.loop-low.invariant c.requires _ (search rules) (search rules) (ap (λ k. key_cmp k c.args.key.now) (sym c.key.ensures) ∙ sym c.compare.ensures ∙ c.in-Greater.is)

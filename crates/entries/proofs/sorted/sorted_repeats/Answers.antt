@@ -1,4 +1,4 @@
-use borrow.Author.Rules.{rules}
+use Rattle.std.proofs.Common.{rules}
 use Rattle.entries.proofs.Twice.{judged-all}
 use Rattle.entries.proofs.sorted.sorted_repeats.Goals as goal
 

@@ -6,7 +6,7 @@ use Rattle.entries.specs.Contract.{LeftOver}
 use Rattle.entries.proofs.sorted.sorted_repeats.Given as goal
 
 abbrev pub invariant-loop-at : goal.invariant-loop-at
-invariant-loop-at l = (length l.run ≡ 2 ^ 11) × ((es : Entries) → Lies l.s l.from l.to es → LeftOver l.s l.to l.at es)
+invariant-loop-at l = (length l.run ≡ 2 ^ 11) × ((es : Entries) → Lies l.part.bytes.now l.part.from l.part.to es → LeftOver l.part.bytes.now l.part.to l.at es)
 
 abbrev pub decreases-loop-at : goal.decreases-loop-at
-decreases-loop-at l = l.to - l.at
+decreases-loop-at l = l.part.to - l.at

@@ -1,6 +1,5 @@
 -- By the tests. Assumes nothing.
-use mathlib.Core.Path.{sym, ◌∙◌}
-use borrow.Author.Tests.{eq-eqb}
+use Rattle.std.proofs.Common.{sym, ◌∙◌, eq-eqb}
 use Rattle.scalar.proofs.KeyLaws.{open-some, open-none, c-quoted, c-other, c-deep, c-behind, last-is, space-is}
 use Rattle.scalar.proofs.key.colon_at.Goals as goal
 use Rattle.scalar.proofs.key.colon_at.Goals.{then-is_some-via-then-is_some, then-is_some-via-else-is_some+then-s-i-ne58, then-is_some-via-else-is_some+else-s-i-ne58+then-depth-ne0}

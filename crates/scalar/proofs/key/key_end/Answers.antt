@@ -1,5 +1,4 @@
-use native.Mathlib.Omega.{arith}
-use mathlib.Core.Path.{refl, sym, ap, ◌∙◌}
+use Rattle.std.proofs.Common.{arith, refl, sym, ap, ◌∙◌}
 use Rattle.scalar.specs.Key.{key_end}
 use Rattle.scalar.specs.Code.{found_of, open_of}
 use Rattle.scalar.proofs.KeyLaws.{key_here, key-turn, depth-turn, key-end}

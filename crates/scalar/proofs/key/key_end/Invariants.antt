@@ -1,7 +1,5 @@
 -- The invariant: the search from here on finds what the search from the start finds. Assumes nothing.
-use mathlib.Core.Path.{◌≡◌}
-use Prim.Native.Nat.{◌≤◌, ◌-◌}
-use lib.ListN.{length, drop}
+use Rattle.std.proofs.Common.{◌≡◌, ◌≤◌, ◌-◌, length, drop}
 use Rattle.scalar.specs.Key.{key_end, key_end_from}
 use Rattle.scalar.specs.Code.{open_of}
 use Rattle.scalar.proofs.key.key_end.Given as goal

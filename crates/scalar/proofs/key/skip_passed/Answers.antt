@@ -1,6 +1,10 @@
-use mathlib.Core.Path.{◌∙◌}
-use Rattle.scalar.proofs.KeyLaws.{passes_on}
+use Rattle.std.proofs.Common.{rules, tests, sym, drop, get_or}
+use Rattle.utf8.proofs.Places.{kept_to}
+use Rattle.scalar.specs.Key.{key_end_from}
+use Rattle.scalar.specs.Code.{open_of}
+use Rattle.scalar.proofs.KeyLaws.{passes-other, passes_on}
 use Rattle.scalar.proofs.key.skip_passed.Goals as goal
 
-pub loop-i-preserved : goal.loop-i-preserved
-loop-i-preserved c = let l = c.loop-i in λ o d. passes_on c.args.s.now o d l.i c.loop-i-test.true (c.marks.ensures c.if-marks.false) ∙ l.invariant o d
+pub returns-clause-same : goal.returns-clause-same
+returns-clause-same c = λ o d. let s = c.args.s.now in
+    sym (kept_to (λ k. key_end_from (open_of o) d k (drop k s)) c.first_place.ensures (λ k h n. sym (passes_on s o d k h (passes-other (get_or s k 0) (search (rules, tests))))))

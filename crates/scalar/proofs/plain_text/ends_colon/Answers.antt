@@ -1,7 +1,5 @@
 -- By what stands there. Assumes nothing.
-use mathlib.Core.Path.{◌∙◌}
-use borrow.Author.Tests.{eq-eqb}
-use native.Mathlib.Omega.{arith}
+use Rattle.std.proofs.Common.{◌∙◌, eq-eqb, arith}
 use Rattle.scalar.proofs.Laws.{colon-last, colon-space, colon-other}
 use Rattle.scalar.proofs.plain_text.ends_colon.Goals as goal
 

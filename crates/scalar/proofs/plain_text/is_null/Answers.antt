@@ -1,6 +1,6 @@
 -- By the length, and then one word after the other. Assumes nothing.
-use mathlib.Core.Path.{sym, ◌∙◌}
-use mathlib.Core.Bool.{or-false}
+use Rattle.std.proofs.Common.{sym, ◌∙◌}
+use Rattle.std.proofs.Math.Bool.{or-false}
 use Rattle.refusal.specs.Base.{bytes}
 use Rattle.scalar.proofs.Laws.{null-empty, null-tilde, null_word, null-other}
 use Rattle.scalar.proofs.plain_text.is_null.Goals as goal

@@ -1,7 +1,6 @@
 -- What is put is what the definition reads. Assumes nothing.
-use mathlib.Core.Path.{refl}
+use Rattle.std.proofs.Common.{refl, false}
 use Rattle.std.proofs.lemmas.Result.{err_from_is_err_and}
-use mathlib.Core.Bool.{false}
 use Rattle.item.specs.Tree.{null}
 use Rattle.scalar.specs.Contract.{is_key}
 use Rattle.scalar.proofs.Laws.{wrote_scalar, refused_scalar}

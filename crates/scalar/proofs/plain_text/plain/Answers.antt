@@ -1,9 +1,6 @@
 -- Plain text by its places, then trimmed. Assumes nothing.
-use mathlib.Core.Path.{sym, ap, ◌∙◌}
+use Rattle.std.proofs.Common.{sym, ap, ◌∙◌, ℕ, List, drop}
 use Rattle.std.proofs.lemmas.Result.{err_from_is_err_and}
-use Prim.Native.Nat.{ℕ}
-use mathlib.Core.List.{List}
-use lib.ListN.{drop}
 use Rattle.writer.specs.Writing.{cap_of, Appends, Lacks}
 use Rattle.scalar.specs.Scalars.{scalar_of}
 use Rattle.scalar.specs.Contract.{is_in_flow, is_key, written}

@@ -1,6 +1,5 @@
 -- At top level the text runs to the line's end. Assumes nothing.
-use native.Mathlib.Omega.{arith}
-use lib.ListN.{drop, length-drop}
+use Rattle.std.proofs.Common.{arith, drop, length-drop}
 use Rattle.scalar.proofs.Laws.{plain_top}
 use Rattle.scalar.proofs.plain_text.plain_end.Goals as goal
 

@@ -1,6 +1,5 @@
 -- By the role and the room. Assumes nothing.
-use mathlib.Core.Path.{refl}
-use native.Mathlib.Omega.{arith}
+use Rattle.std.proofs.Common.{refl, arith}
 use Rattle.std.proofs.lemmas.Result.{err_from_is_err_and}
 use Rattle.item.specs.Tree.{bool}
 use Rattle.refusal.specs.Base.{bytes}

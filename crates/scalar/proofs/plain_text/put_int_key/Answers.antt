@@ -1,6 +1,5 @@
 -- A header, and the text behind it, are the item. Assumes nothing.
-use mathlib.Core.Path.{refl}
-use native.Mathlib.Omega.{arith}
+use Rattle.std.proofs.Common.{refl, arith}
 use Rattle.std.proofs.lemmas.Result.{err_from_is_err_and}
 use Rattle.item.specs.Encode.{signed}
 use Rattle.item.proofs.Size.{item-length}

@@ -1,6 +1,5 @@
 -- By the room. Assumes nothing.
-use mathlib.Core.Path.{refl}
-use native.Mathlib.Omega.{arith}
+use Rattle.std.proofs.Common.{refl, arith}
 use Rattle.std.proofs.lemmas.Result.{err_from_is_err_and}
 use Rattle.item.specs.Encode.{encode}
 use Rattle.item.proofs.Size.{item-length}

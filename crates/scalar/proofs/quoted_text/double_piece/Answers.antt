@@ -1,6 +1,5 @@
 -- By what stands there. Assumes nothing.
-use native.Mathlib.Omega.{arith}
-use mathlib.Core.Bool.{true, false}
+use Rattle.std.proofs.Common.{arith, true, false}
 use Rattle.scalar.specs.Read.{double_quoted}
 use Rattle.scalar.proofs.QuoteLaws.{double-open, double-shut, double-hid, double-byte, stands_behind}
 use Rattle.scalar.proofs.quoted_text.double_piece.Goals as goal

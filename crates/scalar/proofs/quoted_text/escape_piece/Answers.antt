@@ -1,5 +1,5 @@
 -- By what stands behind the `\`. Assumes nothing.
-use native.Mathlib.Omega.{arith}
+use Rattle.std.proofs.Common.{arith}
 use Rattle.std.proofs.lemmas.Result.{err_from_is_err_and}
 use Rattle.scalar.proofs.QuoteLaws.{escape-cut, escape-unknown, escape-byte, escaped_err, escaped_ok}
 use Rattle.scalar.proofs.quoted_text.escape_piece.Goals as goal

@@ -1,8 +1,5 @@
 -- The invariant: the bytes put so far are the front of the string, and the place is where the rest of it starts. Assumes nothing.
-use mathlib.Core.Path.{◌≡◌}
-use Prim.Native.Nat.{ℕ, ◌≤◌, ◌+◌}
-use mathlib.Core.List.{List}
-use lib.ListN.{length, take, drop}
+use Rattle.std.proofs.Common.{◌≡◌, ℕ, ◌≤◌, ◌+◌, List, length, take, drop}
 use Rattle.refusal.specs.Base.{good}
 use Rattle.writer.specs.Writing.{cap_of, Appends}
 use Rattle.scalar.specs.Contract.{quoted_of}

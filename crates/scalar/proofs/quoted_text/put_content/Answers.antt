@@ -1,6 +1,5 @@
 -- Where each byte takes one place, the string is the part before its closing quote. Assumes nothing.
-use native.Mathlib.Omega.{arith}
-use Prim.Native.Nat.{◌+◌}
+use Rattle.std.proofs.Common.{arith, ◌+◌}
 use Rattle.scalar.proofs.Copied.{copied}
 use Rattle.scalar.proofs.quoted_text.put_content.Goals as goal
 

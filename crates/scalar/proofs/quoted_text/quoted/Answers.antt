@@ -1,6 +1,5 @@
 -- A header, and the string behind it, are the item. Assumes nothing.
-use mathlib.Core.Path.{refl, sym, ap, ◌∙◌}
-use native.Mathlib.Omega.{arith}
+use Rattle.std.proofs.Common.{refl, sym, ap, ◌∙◌, arith}
 use Rattle.std.proofs.lemmas.Result.{err_from_is_err_and}
 use Rattle.item.proofs.Size.{item-length}
 use Rattle.writer.specs.Writing.{cap_of}

@@ -1,8 +1,5 @@
 -- By what stands there. Assumes nothing.
-use mathlib.Core.Path.{◌≡◌}
-use Prim.Native.Nat.{◌+◌, ◌<◌}
-use native.Mathlib.Omega.{arith}
-use lib.ListN.{length}
+use Rattle.std.proofs.Common.{◌≡◌, ◌+◌, ◌<◌, arith, length}
 use Rattle.scalar.proofs.QuoteLaws.{single-open, single-byte, single-last, single-shut, single-two}
 use Rattle.scalar.proofs.quoted_text.single_piece.Goals as goal
 use Rattle.scalar.proofs.quoted_text.single_piece.Goals.{then-next-s-via-then-next-s, then-next-s-via-else-next-s+then-s-next-ne39}

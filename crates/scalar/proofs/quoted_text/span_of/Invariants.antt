@@ -1,6 +1,5 @@
 -- The invariant: `size` bytes of the string stand before the place. Assumes nothing.
-use Prim.Native.Nat.{ℕ, ◌+◌, ◌≤◌, ◌-◌}
-use lib.ListN.{length}
+use Rattle.std.proofs.Common.{ℕ, ◌+◌, ◌≤◌, ◌-◌, length}
 use Rattle.scalar.specs.Contract.{quoted_of}
 use Rattle.scalar.proofs.QuoteLaws.{Passed}
 use Rattle.scalar.proofs.quoted_text.span_of.Given as goal

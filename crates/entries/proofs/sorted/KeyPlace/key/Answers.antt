@@ -1,11 +1,9 @@
 -- A part that is got, or none. Assumes nothing.
-use Rattle.std.proofs.Common.{◌≡◌, ◌⊎◌, ℕ, ◌+◌, ◌-◌, ◌<◌, ◌≤◌, List, [], length, take, refl, ap, ◌∙◌, Bor, Bool, true, false, if◌then◌else◌, arith}
+use Rattle.std.proofs.Common.{◌≡◌, ◌⊎◌, ℕ, ◌+◌, ◌-◌, ◌<◌, ◌≤◌, List, [], length, take, refl, ap, ◌∙◌, Bor, Bool, true, false, if◌then◌else◌, arith, ⊎_elim, le-leb, leb}
 use Rattle.std.specs.Prelude.{Option, None, Some}
 use Rattle.std.specs.Option.{MatchOption, unwrap_or}
 use Rattle.std.specs.List.{slice_range}
-use mathlib.Core.Logic.{⊎_elim}
-use borrow.Author.Tests.{le-leb, lt-leb}
-use lib.Dec.{leb}
+use Rattle.std.proofs.lemmas.Bool.{lt-leb}
 use Rattle.entries.specs.Contract.{key_of}
 use Rattle.entries.specs.declared.sorted.KeyPlace.{KeyPlace}
 use Rattle.entries.proofs.sorted.KeyPlace.key.Goals as goal
