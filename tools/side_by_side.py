@@ -1,0 +1,118 @@
+#!/usr/bin/env python3
+"""What changed between two commits, old and new side by side, as docs/DESIGN-PASS.md has it.
+
+usage: python3 tools/side_by_side.py OLD NEW   at the top of the repository
+
+Prints three tables, of the libraries alone: public functions with their clauses, public types and constants, and the definitions of specs/; then a list of
+the public lemmas of proofs/ that are gone under any spelling. Where only white space changed, a row is left out, as are crates whose functions are the same."""
+import re
+import subprocess
+import sys
+
+PROGRAMS = {'replay', 'drumcheck', 'drumread', 'drumrecord', 'drumshow', 'replay_utf8'}
+START = re.compile(r'( *)(?:abbrev pub|unfoldable pub|pub record|pub data|pub(?! mod)|abbrev|record|data|unfoldable) (?:abbrev |unfoldable )?(\S+)')
+LEMMA = re.compile(r'\s*(?:abbrev |unfoldable )?pub (?:abbrev |unfoldable )?(?:record |data )?([^\s:({]+)(?: |$)')
+
+
+def git(*words):
+    return subprocess.run(['git', *words], capture_output=True, text=True, check=True).stdout
+
+
+def files(commit, pattern):
+    for path in git('ls-tree', '-r', '--name-only', commit).split('\n'):
+        found = re.fullmatch(pattern, path)
+        if found and found.group(1) not in PROGRAMS:
+            yield (*found.groups(), git('show', f'{commit}:{path}'))
+
+
+def flat(text):
+    return re.sub(r'\s+', ' ', text).strip().replace('|', '\\|')
+
+
+def functions(commit):
+    rows = {}
+    for crate, text in files(commit, r'crates/([^/]+)/src/.*\.rt'):
+        impls = [(m.start(), m.end(), None if ' for ' in m.group(1) else re.match(r'\w+', m.group(1)).group(0))
+                 for m in re.finditer(r'^impl(?:<[^\n{]*?>)? ([^\n{]*?)\s*\{\n(.*?)^\}', text, re.S | re.M)]
+        for m in re.finditer(r'^( *)pub (?:extern "C" )?fn (.*?)(?:\{$|^\1\{$)', text, re.S | re.M):
+            clauses = re.sub(r', \)', ')', re.sub(r'\( ', '(', flat(m.group(2))))
+            owner = next((n for a, b, n in impls if a <= m.start() < b and n), None)
+            name = re.match(r'\w+', clauses).group(0)
+            rows[f'{crate} {owner}::{name}' if owner else f'{crate} {name}'] = clauses
+    return rows
+
+
+def types(commit):
+    rows = {}
+    for crate, text in files(commit, r'crates/([^/]+)/src/.*\.rt'):
+        text = re.sub(r'^\s*//.*\n', '', text, flags=re.M)
+        for m in re.finditer(r'^((?:#\[[^\n]*\]\n)*)pub ((?:struct|enum|trait) (\w+).*?(?:^\}|;)$|(?:const|type) (\w+)[^\n]*;|const (\w+)[^;]*;)', text, re.S | re.M):
+            rows[f'{crate} {m.group(3) or m.group(4) or m.group(5)}'] = flat(f'{m.group(1)}pub {m.group(2)}')
+        for m in re.finditer(r'^impl(?:<[^\n{]*?>)? (\w+)[^\n{]*\{\n(.*?)^\}', text, re.S | re.M):
+            for k in re.finditer(r'^    pub const (\w+).*?;$', m.group(2), re.S | re.M):
+                rows[f'{crate} {m.group(1)}::{k.group(1)}'] = flat(k.group(0))
+    return rows
+
+
+def definitions(commit):
+    rows = {}
+    for crate, module, text in files(commit, r'crates/([^/]+)/specs/(.*)\.antt'):
+        if module.endswith('Lib'):
+            continue
+        open_, blocks = None, []
+        for line in text.split('\n'):
+            if re.match(r'\s*--', line):
+                continue
+            if re.match(r'use |pub mod|module ', line):
+                open_ = None
+                continue
+            begins = START.match(line)
+            if begins and (open_ is None or len(begins.group(1)) <= open_[2]):
+                open_ = (begins.group(2), [line], len(begins.group(1)))
+                blocks.append(open_)
+            elif open_:
+                open_[1].append(line)
+        rows.update({f'{crate}/{module} {name}': flat('\n'.join(lines)) for name, lines, _ in blocks})
+    return rows
+
+
+def lemmas(commit):
+    rows = {}
+    for crate, module, text in files(commit, r'crates/([^/]+)/proofs/(.*)\.antt'):
+        if '/' in module and module.endswith(('Answers', 'Invariants')) or module.endswith('Lib'):
+            continue
+        for line in text.split('\n'):
+            found = LEMMA.match(line)
+            if found and found.group(1) not in ('use', 'mod', 'abbrev', 'unfoldable', 'record', 'data'):
+                rows.setdefault(crate, {}).setdefault(found.group(1), module)
+    return rows
+
+
+def table(title, old, new):
+    print(f'| {title} | Old | New |\n|---|---|---|')
+    for name in sorted(set(old) | set(new)):
+        before, now = old.get(name), new.get(name)
+        if before != now:
+            print(f"| {name} | {f'`{before}`' if before else '(new)'} | {f'`{now}`' if now else '(gone)'} |")
+    print()
+
+
+def gone(old, new):
+    left = {name.replace('-', '_') for crate in new.values() for name in crate}
+    for crate in sorted(old):
+        modules = {}
+        for name, module in old[crate].items():
+            if name.replace('-', '_') not in left:
+                modules.setdefault(module, []).append(name)
+        if modules:
+            print(f'- **{crate}.** ' + '; '.join(f'`{m}`: ' + ', '.join(f'`{n}`' for n in sorted(names)) for m, names in sorted(modules.items())) + '.')
+
+
+if __name__ == '__main__':
+    if len(sys.argv) != 3:
+        sys.exit(__doc__)
+    before, now = sys.argv[1:]
+    table('Function', functions(before), functions(now))
+    table('Type', types(before), types(now))
+    table('Definition', definitions(before), definitions(now))
+    gone(lemmas(before), lemmas(now))
