@@ -218,3 +218,9 @@ pub ruleset openings = (opens_dash, opens_key, opens_flow)
 pub ruleset dashes = (dash_end, dash_on)
 
 pub ruleset keys = (key_none, key_elsewhere, key_read)
+
+pub ruleset nulls = (null-full, null-done)
+
+pub ruleset line_values = (line_refused, line-done)
+
+pub ruleset block_keys = (key-empty, key-complex, key-refused, key-unnamed, key-done)

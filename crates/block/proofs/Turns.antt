@@ -12,17 +12,18 @@ use Rattle.writer.specs.Writing.{cap_of, Begins, CutsBack}
 use Rattle.entries.specs.Entries.{Lies}
 use Rattle.lines.specs.Lines.{Line}
 use Rattle.lines.specs.Table.{line_at}
-use Rattle.lines.proofs.Rows.{lines_next}
+use Rattle.lines.proofs.Rows.{lines_next, lines_end}
 use Rattle.scalar.specs.Code.{found_of}
 use Rattle.scalar.specs.Contract.{Refuses}
 use Rattle.literal.specs.Literal.{Read}
 use Rattle.literal.specs.Contract.{WroteBlock}
 use Rattle.block.specs.Block.{entry_at, entries_of, item_behind, block_seq, within}
 use Rattle.block.specs.Contract.{key_here, dash_here, column_at, text_at, WroteEntry, Ran}
-use Rattle.block.proofs.Parts.{found_at}
-use Rattle.block.proofs.Cases.{wrote-block, refuses-as, wrote-entry}
-use Rattle.block.proofs.Places.{key-there, key-splits, entry-as, dash-there, dash-text}
-use Rattle.block.proofs.Invariants.{Mapped, out-long, map-stops, map-cut, map-twice, map_on, Listed, sout-long, list-stops, list_on}
+use Rattle.block.proofs.Parts.{found_at, found_nothing}
+use Rattle.block.proofs.Cases.{wrote-block, refuses-as, wrote-entry, agrees-block, block-end, child-end}
+use Rattle.block.proofs.Places.{key-there, key-splits, entry-as, dash-there, dash-text, key-first, block-line-at, sequence-deep-at, block-sequence-at, mapping-deep-at, block-mapping-at, child-deeper-at, child-none-at, entry-done-at, value-nothing-at, value-literal-at, value-stripped-at, value-line-at, item-child-at, item-line-at, item-splits, item-deep-at, item-inline-at}
+use Rattle.writer.proofs.Laws.{len_appended}
+use Rattle.block.proofs.Invariants.{inline-full, inline-later, mapped_end, mapped-start, mapped_all, map-full, map-refused, map-close, listed_start, list_full, Mapped, out-long, map-stops, map-cut, map-twice, map_on, Listed, sout-long, list-stops, list_on}
 
 -- what the search for a key in a part tells of the bytes that the part is of, by what `part` ensures
 pub key_in_part : {all part : Bor (List ℕ)} {start end from to : ℕ} (key : List ℕ) {found : Bool} → part ≡ all → (from ≤ to → to ≤ length all.now → (start ≡ from) × (end ≡ to)) → from ≤ to → to ≤ length all.now
@@ -101,3 +102,24 @@ module _ {ls : List Line} {first indent levels : ℕ} {a old : Writer} {header :
 
   pub item_on : {new : Writer} {j : ℕ} → WroteBlock (item (cap_of out)) ls (i + 1) out new j → Listed ls first indent levels old new j
   item_on {new} {j} w = list_on begun v (line_at ls i) (drop (i + 1) ls) (lines_next ls i dash) k new j (wrote-block _ _ ls (i + 1) out new j item-as w)
+
+-- what the search tries, by the reader
+pub ruleset children = (agrees-block, child-end, child-deeper-at, child-none-at, lines_end)
+
+pub ruleset entry_values = (agrees-block, value-nothing-at, value-literal-at, value-stripped-at, value-line-at)
+
+pub ruleset entry_reads = (entry-done-at, len_appended)
+
+pub ruleset all_turns = (mapped-start, turn_on, mapped_all, found_nothing)
+
+pub ruleset mappings = (map-full, map-refused, map-close)
+
+pub ruleset sequences = (list_full, listed_start)
+
+pub ruleset blocks = (agrees-block, block-end, key-first, block-line-at, sequence-deep-at, block-sequence-at, mapping-deep-at, block-mapping-at, lines_end)
+
+pub ruleset items = (agrees-block, item-child-at, item-line-at, item-splits, item-deep-at, item-inline-at, found_at, found_nothing)
+
+pub ruleset once_turns = (mapped-start, mapped_end, found_nothing)
+
+pub ruleset inlines = (inline-full, inline-later)

@@ -1,8 +1,9 @@
 // Blocks: the value that lines are, written as it is read. `levels` more collections may be opened. What a reader wrote before a refusal is
-// kept.
+// kept. The lines and the writer are lent to each reader one by one: each clause names them apart, so a struct of both would only stand in
+// front of each name. An indentation and the levels go side by side too: what one reader hands on, the next changes by one of them.
 #![tactic(auto)]
 
-ghost use Rattle.std.specs.Prelude.{◌≡◌, ◌+◌, ◌≤◌, ◌<◌, suc, length, drop};
+ghost use Rattle.std.specs.Prelude.{◌≡◌, ◌+◌, ◌-◌, ◌≤◌, ◌<◌, suc, length, drop, MatchResult};
 ghost use Rattle.std.proofs.Math.Option.{some};
 ghost use Rattle.item.specs.Tree as items;
 ghost use Rattle.writer.specs.Writing.{cap_of};
@@ -18,7 +19,7 @@ ghost use Rattle.block.specs.Contract.{opening_of, behind_of, key_here, dash_her
 ghost use Rattle.block.specs.Contract.{ReadsEntries, ReadsOnce};
 
 use entries::{has_key, repeats};
-use item::{Found, Kind};
+use item::{Found, HEADER, Kind};
 use lines::{Lines, dashed};
 use literal::literal;
 use refusal::Refusal;
@@ -31,6 +32,15 @@ use writer::Writer;
 pub struct EntryRead {
     pub next: usize,
     pub key_end: usize,
+}
+
+// Where an entry begins: its line, its place in that line's text, and how far behind that its colon stands. That they lie in the lines is
+// said by those who take it, since the lines go beside it.
+#[derive(Clone, Copy)]
+struct EntryStart {
+    line: usize,
+    from: usize,
+    split: usize,
 }
 
 /// What a line begins with: a dash, a key that ends at a place, or neither, so that it is one flow value.
@@ -85,15 +95,17 @@ fn behind_colon(t: &[u8]) -> Behind
     }
 }
 
+#[tactic(auto, using(crate::proofs::Parts::nulls))]
 fn null(i: usize, writer: &mut Writer<'_>) -> Result<usize, Refusal>
     ensures { ReadsPart (literals.leaf (cap_of writer.old) writer.old.used items.null) i writer.old writer.new result }
 {
-    writer.reserve(6)?;
+    writer.reserve(HEADER)?;
     writer.null();
     Ok(i)
 }
 
 // A part of a line that is one value; the lines from `i` on are left.
+#[tactic(auto, using(crate::proofs::Parts::line_values))]
 fn line_value(
     s: &[u8],
     i: usize,
@@ -109,12 +121,13 @@ fn line_value(
 }
 
 // The key before a colon.
+#[tactic(auto, using(crate::proofs::Parts::block_keys))]
 fn block_key(s: &[u8], levels: usize, number: u32, writer: &mut Writer<'_>) -> Result<(), Refusal>
     requires { length s.now ≤ 65535 }
     ensures { AgreesKey (block_key (cap_of writer.old) levels number writer.old.used (trim s.now)) writer.old writer.new result }
 {
     let key = trimmed(s);
-    if key.len() == 0 {
+    if key.is_empty() {
         return Err(Refusal::EmptyKey { line: number });
     }
     if starts_complex(key) {
@@ -128,7 +141,15 @@ fn block_key(s: &[u8], levels: usize, number: u32, writer: &mut Writer<'_>) -> R
     }
 }
 
+// How many more collections may be opened inside one that line `line` opens.
+fn levels_inside(levels: usize, line: u32) -> Result<usize, Refusal>
+    ensures { MatchResult result (λ inside. (levels ≡ 0 → ⊥) × (inside ≡ levels - 1)) (λ e. (levels ≡ 0) × (e ≡ Refusal.TooDeep line)) }
+{
+    levels.checked_sub(1).ok_or(Refusal::TooDeep { line })
+}
+
 // A value on a deeper line than `indent`; without one it is null.
+#[tactic(auto, using(crate::proofs::Turns::children))]
 #[cycle(block)]
 fn child(
     lines: &Lines<'_>,
@@ -150,56 +171,54 @@ fn child(
     null(i, writer)
 }
 
-// The value of the entry that starts in line `i` at the place `from` of its text, with its colon at `split` behind that.
+// The value of the entry that begins at `at`.
+#[tactic(auto, using(crate::proofs::Turns::entry_values))]
 #[cycle(block)]
 fn entry_value(
     lines: &Lines<'_>,
-    i: usize,
-    from: usize,
-    split: usize,
+    at: EntryStart,
     levels: usize,
     writer: &mut Writer<'_>,
 ) -> Result<usize, Refusal>
-    requires line { i < length lines.now }
-    requires colon { from + split < length (line_at lines.now i).text }
-    ensures { ReadsLines (value_behind (cap_of writer.old) (within (cap_of writer.old) levels) (line_at lines.now i).number
-        (column_at (line_at lines.now i) from) writer.old.used (trim (drop (suc split) (text_at (line_at lines.now i) from))))
-        lines.now (i + 1) writer.old writer.new result }
+    requires line { at.line < length lines.now }
+    requires colon { at.from + at.split < length (line_at lines.now at.line).text }
+    ensures { ReadsLines (value_behind (cap_of writer.old) (within (cap_of writer.old) levels) (line_at lines.now at.line).number
+        (column_at (line_at lines.now at.line) at.from) writer.old.used (trim (drop (suc at.split) (text_at (line_at lines.now at.line) at.from))))
+        lines.now (at.line + 1) writer.old writer.new result }
 {
-    let text = lines.text(i);
-    let line = &text[from..];
+    let text = lines.text(at.line);
+    let line = &text[at.from..];
     let end = line.len();
-    let behind = trimmed(&line[split + 1..end]);
-    let indent = lines.indent(i) + from;
+    let behind = trimmed(&line[at.split + 1..end]);
+    let indent = lines.indent(at.line) + at.from;
     match behind_colon(behind) {
-        Behind::Nothing => child(lines, i + 1, indent, levels, writer),
-        Behind::Literal => literal(lines, i + 1, indent, false, writer),
-        Behind::Stripped => literal(lines, i + 1, indent, true, writer),
-        Behind::Value => line_value(behind, i + 1, levels, lines.number(i), writer),
+        Behind::Nothing => child(lines, at.line + 1, indent, levels, writer),
+        Behind::Literal => literal(lines, at.line + 1, indent, false, writer),
+        Behind::Stripped => literal(lines, at.line + 1, indent, true, writer),
+        Behind::Value => line_value(behind, at.line + 1, levels, lines.number(at.line), writer),
     }
 }
 
 // That entry: its key, then its value.
+#[tactic(auto, using(crate::proofs::Turns::entry_reads))]
 #[cycle(block)]
 fn entry(
     lines: &Lines<'_>,
-    i: usize,
-    from: usize,
-    split: usize,
+    at: EntryStart,
     levels: usize,
     writer: &mut Writer<'_>,
 ) -> Result<EntryRead, Refusal>
-    requires line { i < length lines.now }
-    requires colon { from + split < length (line_at lines.now i).text }
-    ensures { ReadsEntry (entry_at (cap_of writer.old) (within (cap_of writer.old) levels) (line_at lines.now i).number
-        (column_at (line_at lines.now i) from) (text_at (line_at lines.now i) from) split writer.old.used)
-        lines.now (i + 1) writer.old writer.new result }
+    requires line { at.line < length lines.now }
+    requires colon { at.from + at.split < length (line_at lines.now at.line).text }
+    ensures { ReadsEntry (entry_at (cap_of writer.old) (within (cap_of writer.old) levels) (line_at lines.now at.line).number
+        (column_at (line_at lines.now at.line) at.from) (text_at (line_at lines.now at.line) at.from) at.split writer.old.used)
+        lines.now (at.line + 1) writer.old writer.new result }
 {
-    let text = lines.text(i);
-    let key = &text[from..from + split];
-    block_key(key, levels, lines.number(i), writer)?;
+    let text = lines.text(at.line);
+    let key = &text[at.from..at.from + at.split];
+    block_key(key, levels, lines.number(at.line), writer)?;
     let key_end = writer.used();
-    let next = entry_value(lines, i, from, split, levels, writer)?;
+    let next = entry_value(lines, at, levels, writer)?;
     Ok(EntryRead { next, key_end })
 }
 
@@ -221,7 +240,8 @@ fn key_at(lines: &Lines<'_>, i: usize, indent: usize) -> Found
 
 // The entries of a mapping from line `first` on, whose keys are not compared: the lines at this indentation that have a key end.
 // `found` is where the first one's key ends. Where an entry is refused, the writer is cut back to those before it. A `loop` that is broken
-// out of, and a `while` below and in `sequence`: each goes on at the line where an entry or an item ends.
+// out of by `let .. else`, as a rule of the project has it, and a `while` below and in `sequence`: each goes on at the line where an entry or an item ends.
+#[tactic(auto, using(crate::proofs::Turns::all_turns))]
 #[cycle(block)]
 fn all_entries(
     lines: &Lines<'_>,
@@ -243,7 +263,12 @@ fn all_entries(
             break;
         };
         let before = writer.used();
-        match entry(lines, i, 0, split, levels, writer) {
+        let at = EntryStart {
+            line: i,
+            from: 0,
+            split,
+        };
+        match entry(lines, at, levels, writer) {
             Err(refusal) => {
                 writer.truncate(before);
                 return Err(refusal);
@@ -257,7 +282,9 @@ fn all_entries(
     Ok(i)
 }
 
-// The same, where each key is compared with those before it, so that the first line whose key stands twice is named.
+// The same, where each key is compared with those before it, so that the first line whose key stands twice is named. Not one walk with a
+// switch: what the two promise of a refusal differs, and with it what they do in each turn.
+#[tactic(auto, using(crate::proofs::Turns::once_turns))]
 #[cycle(block)]
 fn entries_once(
     lines: &Lines<'_>,
@@ -274,10 +301,15 @@ fn entries_once(
     let mut i = first;
     while let Found::At(split) = key_at(lines, i, indent) {
         let before = writer.used();
-        let read = entry(lines, i, 0, split, levels, writer)?;
+        let at = EntryStart {
+            line: i,
+            from: 0,
+            split,
+        };
+        let read = entry(lines, at, levels, writer)?;
         let written = writer.written();
         let earlier = written.part(start, before);
-        if has_key(earlier, &written.bytes[before + 6..read.key_end]) {
+        if has_key(earlier, &written.bytes[before + HEADER..read.key_end]) {
             let line = lines.number(i);
             return Err(Refusal::KeyTwice { line });
         }
@@ -312,6 +344,7 @@ fn entries(
 }
 
 // A mapping that begins with line `i`, whose key ends at `split`.
+#[tactic(auto, using(crate::proofs::Turns::mappings))]
 #[cycle(block)]
 fn mapping(
     lines: &Lines<'_>,
@@ -333,32 +366,31 @@ fn mapping(
 }
 
 // A mapping whose first entry stands behind a dash.
+#[tactic(auto, using(crate::proofs::Turns::inlines))]
 #[cycle(block)]
 fn inline_mapping(
     lines: &Lines<'_>,
-    i: usize,
-    from: usize,
-    split: usize,
+    at: EntryStart,
     levels: usize,
     writer: &mut Writer<'_>,
 ) -> Result<usize, Refusal>
-    requires line { i < length lines.now }
-    requires colon { from + split < length (line_at lines.now i).text }
-    requires short { from ≤ 65535 }
-    ensures { ReadsLines (inline_map (cap_of writer.old) (within (cap_of writer.old) levels) (line_at lines.now i).number
-        (column_at (line_at lines.now i) from) (text_at (line_at lines.now i) from) split writer.old.used)
-        lines.now (i + 1) writer.old writer.new result }
+    requires line { at.line < length lines.now }
+    requires colon { at.from + at.split < length (line_at lines.now at.line).text }
+    requires short { at.from ≤ 65535 }
+    ensures { ReadsLines (inline_map (cap_of writer.old) (within (cap_of writer.old) levels) (line_at lines.now at.line).number
+        (column_at (line_at lines.now at.line) at.from) (text_at (line_at lines.now at.line) at.from) at.split writer.old.used)
+        lines.now (at.line + 1) writer.old writer.new result }
 {
     let header = writer.begin()?;
-    let indent = lines.indent(i) + from;
-    let first = entry(lines, i, from, split, levels, writer)?;
+    let indent = lines.indent(at.line) + at.from;
+    let first = entry(lines, at, levels, writer)?;
     let later = writer.used();
     let found = key_at(lines, first.next, indent);
     let next = entries(lines, first.next, found, indent, levels, writer)?;
     let written = writer.written();
     let behind = written.part(later, writer.used());
-    if has_key(behind, &written.bytes[header + 12..first.key_end]) {
-        let line = lines.number(i);
+    if has_key(behind, &written.bytes[header + 2 * HEADER..first.key_end]) {
+        let line = lines.number(at.line);
         return Err(Refusal::KeyTwice { line });
     }
     writer.end(header, Kind::Map);
@@ -366,6 +398,7 @@ fn inline_mapping(
 }
 
 // The item behind the dash of line `i`.
+#[tactic(auto, using(crate::proofs::Turns::items))]
 #[cycle(block)]
 fn item(
     lines: &Lines<'_>,
@@ -387,11 +420,13 @@ fn item(
     let Found::At(split) = key_end(&line[from..end]) else {
         return line_value(&line[from..end], i + 1, levels, lines.number(i), writer);
     };
-    if levels == 0 {
-        let line = lines.number(i);
-        return Err(Refusal::TooDeep { line });
-    }
-    inline_mapping(lines, i, from, split, levels - 1, writer)
+    let inside = levels_inside(levels, lines.number(i))?;
+    let at = EntryStart {
+        line: i,
+        from,
+        split,
+    };
+    inline_mapping(lines, at, inside, writer)
 }
 
 // Whether line `i` goes on a sequence at this indentation.
@@ -404,6 +439,7 @@ fn goes_on(lines: &Lines<'_>, i: usize, indent: usize) -> bool
 }
 
 // A sequence that begins with line `first`.
+#[tactic(auto, using(crate::proofs::Turns::sequences))]
 #[cycle(block)]
 fn sequence(
     lines: &Lines<'_>,
@@ -427,6 +463,7 @@ fn sequence(
 
 /// The value that begins with line `i`: a sequence, a mapping or one flow value. Where no line is left it is null. The first line behind
 /// it is given.
+#[tactic(auto, using(crate::proofs::Turns::blocks))]
 #[cycle(block)]
 pub fn block(
     lines: &Lines<'_>,
@@ -446,16 +483,12 @@ pub fn block(
     match opens_with(text) {
         Opening::Flow => line_value(text, i + 1, levels, number, writer),
         Opening::Dash => {
-            if levels == 0 {
-                return Err(Refusal::TooDeep { line: number });
-            }
-            sequence(lines, i, indent, levels - 1, writer)
+            let inside = levels_inside(levels, number)?;
+            sequence(lines, i, indent, inside, writer)
         }
         Opening::Key(split) => {
-            if levels == 0 {
-                return Err(Refusal::TooDeep { line: number });
-            }
-            mapping(lines, i, split, indent, levels - 1, writer)
+            let inside = levels_inside(levels, number)?;
+            mapping(lines, i, split, indent, inside, writer)
         }
     }
 }

@@ -1,34 +1,24 @@
 -- The steps of a `repeat`, one by one: each is read before one of them is refused for its command. Assumes nothing.
-use Rattle.std.proofs.Common.{◌≡◌, refl, sym, ap, ◌∙◌, subst, ℕ, suc, ◌+◌, ◌-◌, ◌^◌, ◌≤◌, ◌<◌, Bool, true, false, ◌&&◌, List, [], ◌∷◌, length, take, drop, Result, Ok, Err, arith}
+use Rattle.std.proofs.Common.{◌≡◌, refl, sym, ap, ◌∙◌, subst, ℕ, suc, ◌+◌, ◌≤◌, Bool, true, false, ◌&&◌, List, [], ◌∷◌, Result, Ok, Err, arith}
 use Rattle.std.proofs.Math.Option.{none, some}
-use Rattle.refusal.specs.Base.{Answer, good, refused, ◌>>=◌, ◌>>◌, ensure, given}
+use Rattle.refusal.specs.Base.{Answer, good, refused, ◌>>=◌, ◌>>◌, ensure, given, bytes}
 use Rattle.refusal.specs.Told.{refusal}
 use Rattle.refusal.specs.declared.Refusal.{Refusal}
-use Rattle.item.specs.Tree.{Yaml, null, bool, int, str, seq, dict, Items, end, Ranged}
-use Rattle.item.specs.Encode.{encode, kind_of}
+use Rattle.item.specs.Tree.{Yaml, null, bool, int, str, seq, dict, Items, Entries, get, end, Ranged}
+use Rattle.item.specs.Encode.{kind_of}
 use Rattle.step_lines.specs.StepLines.{head_line, tail_lines}
-use Rattle.entries.specs.Entries.{Stands, Holds}
-use Rattle.entries.proofs.Walking.{no-more-items, ItemTurn, item-turn, no_item}
+use Rattle.entries.specs.Entries.{Holds}
+use Rattle.entries.proofs.Walking.{no-more-items}
+use Rattle.nodes.specs.Contract.{IsItem}
+use Rattle.nodes.proofs.Items.{ItemTurn}
 use Rattle.meaning.specs.Meaning.{Step}
 use Rattle.meaning.specs.Meanings.{sequence_or, step_at, steps_from}
-use Rattle.step.specs.Contract.{ReadsStep, AgreesStep}
-use Rattle.step.specs.declared.StepPlaces.{StepPlaces}
-use Rattle.item.specs.Places.{header_at}
+use Rattle.step.specs.Contract.{AgreesStep}
+use Rattle.step.specs.declared.parts.StepNodes.{StepNodes}
 use Rattle.item.specs.declared.Item.{Item}
-use Rattle.item.specs.declared.Broken.{Broken}
-use Rattle.entries.specs.Entries.{span_at}
 use Rattle.check_steps.specs.CheckSteps.{known, repeated, all_known, check_inner, check_repeat}
 
 -- ---- one step after another
-
-module _ {s : List ℕ} {at to : ℕ} (ys : Items) (w : length s ≤ 2 ^ 20) (m : at < to) (h : Holds s at to ys) where
-  pub inner-turn : {item : Item} → Ok item ≡ header_at s at → ItemTurn s at to ys item.to
-  unfolding span_at
-  inner-turn e = item-turn ys w m h (ap (span_at at) e)
-
-  pub no-inner : {broken : Broken} {X : Type 0} → Err broken ≡ header_at s at → X
-  unfolding span_at
-  no-inner e = no_item ys w m h (ap (span_at at) e)
 
 -- with the steps that are left, and whether the commands of those before them are known
 unfoldable pub onward : List (List ℕ) → ℕ → ℕ → Bool → ℕ → Items → Answer (Unit {0})
@@ -56,34 +46,34 @@ module _ {s : List ℕ} {to at : ℕ} {ns : List (List ℕ)} {line step : ℕ} {
   unfolding ensure ◌>>◌ ◌>>=◌
   walk-unknown m e = sym (walk_end m ∙ rw e)
 
-  module _ {next : ℕ} (t : ItemTurn s at to w.rest next) where
+  module _ {item : Item} (t : ItemTurn s at to w.rest item) where
     abbrev others : Items
-    others = t.item.others
+    others = t.first.others
 
     this : Answer Step → Answer (Unit {0})
     this a = (a >>= λ x. steps_from (suc (suc number)) [] others >>= λ ss. good (x ∷ ss)) >>= λ ss. ensure b 36 line step >> all_known ns line step ss
 
-    turned : check_inner ns line step ys ≡ this (step_at 0 (suc number) t.item.y)
+    turned : check_inner ns line step ys ≡ this (step_at 0 (suc number) t.first.y)
     unfolding onward steps_from this head_line tail_lines
-    turned = w.same ∙ ap (onward ns line step b number) t.item.is
+    turned = w.same ∙ ap (onward ns line step b number) t.first.is
 
-    module _ {r : Result StepPlaces Refusal} (promise : (y : Yaml) → Ranged y → Stands s at (encode y) → AgreesStep s (step_at 0 (number + 1) y) r) where
-      told : {q : Result StepPlaces Refusal} → r ≡ q → AgreesStep s (step_at 0 (suc number) t.item.y) q
+    module _ {r : Result StepNodes Refusal} (promise : (y : Yaml) → Ranged y → IsItem s y item → AgreesStep (step_at 0 (number + 1) y) r) where
+      told : {q : Result StepNodes Refusal} → r ≡ q → AgreesStep (step_at 0 (suc number) t.first.y) q
       told {q} e =
           let n : number + 1 ≡ suc number = omega arith in
-          subst (λ (i : ℕ). AgreesStep s (step_at 0 i t.item.y) q) n (subst (AgreesStep s (step_at 0 (number + 1) t.item.y)) e (promise t.item.y t.item.ranged t.item.value))
+          subst (λ (i : ℕ). AgreesStep (step_at 0 i t.first.y) q) n (subst (AgreesStep (step_at 0 (number + 1) t.first.y)) e (promise t.first.y t.first.ranged t.item_is))
 
       pub walk_refused : {e : Refusal} → r ≡ Err e → refusal e ≡ check_inner ns line step ys
       unfolding this ◌>>=◌
       walk_refused q = sym (turned ∙ ap this (told q))
 
-      pub walk-on : {p : StepPlaces} → r ≡ Ok p → {k : Bool} → k ≡ known ns (take (p.value - p.key) (drop p.key s))
-          → Walked s to next ns line step ys (number + 1) (b && k)
+      pub walk-on : {n : StepNodes} → r ≡ Ok n → {k : Bool} → k ≡ known ns n.key.now
+          → Walked s to item.to ns line step ys (number + 1) (b && k)
       unfolding this onward all_known ensure ◌>>◌ ◌>>=◌
-      walk-on {p} q {k} e =
-          let a : ReadsStep s (step_at 0 (suc number) t.item.y) p = told q in
+      walk-on q {k} e =
+          let a = told q in
           let n : suc number ≡ number + 1 = omega arith in
-          let c : known ns a.step.key ≡ k = ap (known ns) (sym a.stands.command.key) ∙ sym e in
+          let c : known ns a.step.key ≡ k = ap (known ns) (sym a.stands.key) ∙ sym e in
           record {
             rest = others;
             holds = t.behind;
@@ -100,6 +90,10 @@ module _ {s : List ℕ} {to at : ℕ} {ns : List (List ℕ)} {line step : ℕ} {
           behind x c (refused n l i) = refl
 
 -- ---- the value of `steps`
+
+pub in-entries : (v : Yaml) (es : Entries) → v ≡ dict es → get (bytes "steps") es ≡ repeated v
+unfolding repeated
+in-entries v es e = rw e refl
 
 pub no_steps : (v : Yaml) → (kind_of v ≡ 5 → ⊥) → repeated v ≡ none
 unfolding repeated kind_of

@@ -6,9 +6,9 @@ ghost use Rattle.std.specs.Prelude.{◌≡◌, List, ℕ, ◌+◌, drop};
 ghost use Rattle.std.proofs.Math.Option.{some};
 ghost use Rattle.refusal.specs.Base.{one_of};
 ghost use Rattle.item.specs.Tree.{Yaml, Items as Trees, Ranged};
-ghost use Rattle.item.specs.Encode.{encode};
 ghost use Rattle.step_lines.specs.StepLines.{head_line};
-ghost use Rattle.entries.specs.Entries.{Stands, Holds, Finds};
+ghost use Rattle.entries.specs.Entries.{Stands, HoldsIn};
+ghost use Rattle.nodes.specs.Contract.{IsNode, FindsNode};
 ghost use Rattle.meaning.specs.Meaning.{Step};
 ghost use Rattle.meaning.specs.Record.{step_item};
 ghost use Rattle.record.specs.Contract.{is_some, StepsLie, told_of};
@@ -16,9 +16,10 @@ ghost use Rattle.check_steps.specs.Names.{filled, names_in};
 ghost use Rattle.check_steps.specs.CheckSteps as definition;
 ghost use Rattle.check_steps.specs.CheckSteps.{answer_of, known, repeated, check_inner, check_repeat, check_step, check_from};
 
-use entries::{find, nth_item};
-use item::{Encoded, Found, Item, Items, Kind, Part, header_at, same_bytes};
+use entries::nth_item;
+use item::{Encoded, HEADER, Item, Items, Kind, Part, header_at, same_bytes};
 use meaning::is_built_in;
+use nodes::{Node, value_of};
 use record::{are_texts, steps_of};
 use refusal::Refusal;
 use step::read_step;
@@ -31,6 +32,7 @@ pub enum StepsAnswer {
     Refused(Refusal),
 }
 
+// `TimesAnswer` and `Lookup` have the like: each tells something of its own, so one trait would be handed both cases and be no plainer.
 impl From<Result<usize, Refusal>> for StepsAnswer {
     ghost from_gives = { λ checked answer. answer_of answer ≡ told_of checked };
 
@@ -49,17 +51,13 @@ fn is_list(names: &[u8]) -> bool
     let Ok(list) = header_at(names, 0) else {
         return false;
     };
-    if list.kind != Kind::Seq as usize {
-        return false;
-    }
     let is_whole = list.to == names.len();
-    if !is_whole {
-        return false;
-    }
-    are_texts(&names[list.from..list.to])
+    list.is(Kind::Seq) && is_whole && are_texts(&names[list.from..list.to])
 }
 
 // Whether a key is one of the names that fill `names`.
+// By `for`: with `any` neither the bounds in its closure nor what it found proved, since each is told of runs of the walk and wants an
+// induction of its own, where this loop has one invariant for both.
 #[tactic(auto, using(item::proofs::Headers::spans, crate::proofs::Names::unread_start))]
 fn is_name(names: &[u8], key: &[u8]) -> bool
     ensures { (ns : List (List ℕ)) → filled names.now ≡ some ns → result ≡ one_of key.now ns }
@@ -82,97 +80,98 @@ fn is_known(names: &[u8], key: &[u8]) -> bool
     is_built_in(key) || is_name(names, key)
 }
 
-// What is lent to the functions below may be any bytes: they refuse as malformed what is no steps, which never stands in a record.
+// A step that is checked, by its line and its number, and the names that its command may have beside those that are built in.
+#[derive(Clone, Copy)]
+struct Site<'a> {
+    names: &'a [u8],
+    line: u32,
+    number: u32,
+}
 
-// The steps of a `repeat`: all of them are read before one is refused for its command.
+// What is lent to the functions below may be any bytes: they refuse as malformed what is no steps, which never stands in a record.
+// That names fill the bytes lent as `names` is a premise and no ghost field of a struct: the clauses need the list of names itself, which a
+// ghost field would not give them.
+
+// The steps of a `repeat`. All of them are read before one is refused for its command, so the walk goes on where one is not known.
 #[tactic(auto, using(item::proofs::Headers::spans, crate::proofs::Inner::walk_start))]
-fn check_inner(steps: Part<'_>, names: &[u8], line: u32, outer: u32) -> Result<(), Refusal>
-    ensures { (ns : List (List ℕ)) → filled names.now ≡ some ns → (ys : Trees)
-        → Holds steps.entry.bytes.now steps.entry.from steps.entry.to ys → told_of result ≡ check_inner ns line outer ys }
+fn check_inner(steps: Part<'_>, outer: Site<'_>) -> Result<(), Refusal>
+    ensures { (ns : List (List ℕ)) → filled outer.entry.names.now ≡ some ns → (ys : Trees)
+        → HoldsIn steps.entry ys
+        → told_of result ≡ check_inner ns outer.entry.line outer.entry.number ys }
 {
-    let mut number: u32 = 0;
     let mut all_known = true;
-    for item in steps.walk::<Item>() {
+    for (before, item) in steps.walk::<Item>().enumerate() {
         let Ok(item) = item else {
             return Err(Refusal::Malformed);
         };
-        number += 1;
-        let start = item.from - 6;
-        let step = read_step(steps.encoded(), start, 0, number)?;
-        all_known &= is_known(names, &steps.bytes[step.key..step.value]);
+        let number = before as u32 + 1;
+        let node = Node {
+            bytes: steps.bytes,
+            item,
+        };
+        // These have no lines: 0 names none, as in the definition.
+        let step = read_step(node, 0, number)?;
+        all_known &= is_known(outer.names, step.key);
     }
     if all_known {
         return Ok(());
     }
-    Err(Refusal::UnknownCommand { line, step: outer })
+    Err(Refusal::UnknownCommand {
+        line: outer.line,
+        step: outer.number,
+    })
 }
 
-// The value of `steps` in the mapping at `at`.
-fn find_steps(s: Encoded<'_>, at: usize) -> Found
-    ensures { (v : Yaml) → Ranged v → Stands s.entry.bytes.now at (encode v)
-        → Finds s.entry.bytes.now (repeated v) result }
+// What stands beside `steps` in a mapping.
+fn find_steps(value: Node<'_>) -> Option<Node<'_>>
+    ensures { (v : Yaml) → IsNode v value.entry → FindsNode (repeated v) result }
 {
-    let Ok(item) = header_at(s.bytes, at) else {
-        return Found::Nothing;
-    };
-    if item.kind != Kind::Map as usize {
-        return Found::Nothing;
-    }
-    find(s.part(item.from, item.to), b"steps")
+    value_of(value.mapping()?, b"steps")
 }
 
-// The value at `at`, of a `repeat` in this line and of this step.
-fn check_repeat(
-    s: Encoded<'_>,
-    at: usize,
-    names: &[u8],
-    line: u32,
-    step: u32,
-) -> Result<(), Refusal>
-    ensures { (ns : List (List ℕ)) → filled names.now ≡ some ns → (v : Yaml) → Ranged v
-        → Stands s.entry.bytes.now at (encode v) → told_of result ≡ check_repeat ns line step v }
+// The value of a step that is a `repeat`.
+fn check_repeat(value: Node<'_>, site: Site<'_>) -> Result<(), Refusal>
+    ensures { (ns : List (List ℕ)) → filled site.entry.names.now ≡ some ns → (v : Yaml) → IsNode v value.entry
+        → told_of result ≡ check_repeat ns site.entry.line site.entry.number v }
 {
-    let Found::At(place) = find_steps(s, at) else {
-        return Err(Refusal::RepeatWithoutSteps { step });
+    let Some(steps) = find_steps(value) else {
+        return Err(Refusal::RepeatWithoutSteps { step: site.number });
     };
-    let Ok(item) = header_at(s.bytes, place) else {
-        return Err(Refusal::Malformed);
-    };
-    if item.kind == Kind::Null as usize {
+    if steps.is(Kind::Null) {
         return Ok(());
     }
-    if item.kind != Kind::Seq as usize {
+    let Some(items) = steps.sequence() else {
         return Err(Refusal::StepsNotSequence);
-    }
-    check_inner(s.part(item.from, item.to), names, line, step)
+    };
+    check_inner(items, site)
 }
 
 // The step whose parts begin at `from`. Its key is the third of them, its value stands behind that.
 #[tactic(auto, using(record::proofs::StepPlaces::nth_inside))]
-fn check_step(
-    s: Encoded<'_>,
-    from: usize,
-    names: &[u8],
-    line: u32,
-    step: u32,
-) -> Result<(), Refusal>
-    ensures { (ns : List (List ℕ)) → filled names.now ≡ some ns → (at : ℕ) (x : Step) → from ≡ at + 6 → Ranged x.value
-        → Stands s.entry.bytes.now at (step_item x) → told_of result ≡ check_step ns line step x }
+fn check_step(s: Encoded<'_>, from: usize, site: Site<'_>) -> Result<(), Refusal>
+    ensures { (ns : List (List ℕ)) → filled site.entry.names.now ≡ some ns → (at : ℕ) (x : Step) → from ≡ at + 6 → Ranged x.value
+        → Stands s.entry.bytes.now at (step_item x) → told_of result ≡ check_step ns site.entry.line site.entry.number x }
 {
     let Some(key) = nth_item(s.bytes, from, 2) else {
         return Err(Refusal::Malformed);
     };
-    let command = &s.bytes[key.start + 6..key.end];
-    if !is_known(names, command) {
-        return Err(Refusal::UnknownCommand { line, step });
+    let command = &s.bytes[key.start + HEADER..key.end];
+    if !is_known(site.names, command) {
+        return Err(Refusal::UnknownCommand {
+            line: site.line,
+            step: site.number,
+        });
     }
-    if same_bytes(command, b"repeat") {
-        return check_repeat(s, key.end, names, line, step);
+    if !same_bytes(command, b"repeat") {
+        return Ok(());
     }
-    Ok(())
+    let Some(value) = Node::at(s, key.end) else {
+        return Err(Refusal::Malformed);
+    };
+    check_repeat(value, site)
 }
 
-// The line of the step with so many before it.
+// The line of the step with so many before it, or 0, which names no line, as in the definition.
 #[tactic(auto, using(crate::proofs::Steps::line_is))]
 fn line_of(lines: &[u32], before: usize) -> u32
     ensures { result ≡ head_line (drop before lines.now) }
@@ -186,14 +185,16 @@ fn check_all(steps: Part<'_>, lines: &[u32], names: &[u8]) -> Result<(), Refusal
     ensures { (ns : List (List ℕ)) → filled names.now ≡ some ns → (xs : List Step)
         → StepsLie steps.entry.bytes.now steps.entry.from steps.entry.to xs → told_of result ≡ check_from ns 1 lines.now xs }
 {
-    let mut number = 0;
-    for item in steps.walk::<Item>() {
+    for (before, item) in steps.walk::<Item>().enumerate() {
         let Ok(item) = item else {
             return Err(Refusal::Malformed);
         };
-        let line = line_of(lines, number);
-        number += 1;
-        check_step(steps.encoded(), item.from, names, line, number as u32)?;
+        let site = Site {
+            names,
+            line: line_of(lines, before),
+            number: before as u32 + 1,
+        };
+        check_step(steps.encoded(), item.from, site)?;
     }
     Ok(())
 }
@@ -206,7 +207,7 @@ fn checked(record: &[u8], lines: &[u32], names: &[u8]) -> Result<usize, Refusal>
     if !is_list(names) {
         return Err(Refusal::Malformed);
     }
-    check_all(steps.items, lines, &names[6..])?;
+    check_all(steps.items, lines, &names[HEADER..])?;
     Ok(steps.count)
 }
 

@@ -16,7 +16,7 @@ pub const ROOM: usize = 65536;
 pub const PLACES: usize = 512;
 
 /// Prints a refusal as `NUMBER LINE STEP`.
-#[derive(Clone, Copy)]
+#[derive(Clone, Copy, Debug, PartialEq, Eq)]
 pub struct Numbers(pub Refusal);
 
 impl fmt::Display for Numbers {

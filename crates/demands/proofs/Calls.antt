@@ -78,8 +78,10 @@ module _ (text work room places : List ℕ) {tree bytes lines : List ℕ} {r : S
     pub own-record : IsRead text work room places (take b bytes)
     own-record = record { read = told-by.read; is = told-by.is; bytes = told-by.record_is }
 
-    pub tells-nothing : TellsRefusal (scenario_of work room places text) work tree room bytes places lines (told 0 0 0)
-    tells-nothing = rw told-by.is refl
+    pub tells-nothing : {t : Told} → t.number ≡ 0 → t.line ≡ 0 → t.step ≡ 0 → TellsRefusal (scenario_of work room places text) work tree room bytes places lines t
+    tells-nothing {t} n l s =
+        let e : told t.number t.line t.step ≡ told 0 0 0 = rw (n, l, s) refl in
+        rw told-by.is e
 
     pub record-fits : length bytes ≡ length room → b ≤ length bytes
     record-fits h = omega (arith, told-by.record_fits, h)
@@ -133,12 +135,14 @@ module _ {text work room places b : List ℕ} (g : IsRead text work room places 
           (sym (refused-itself (length work') (length room') (length places') text _ _ _ w (λ k. false≢true (sym q ∙ lacking _ k)))
           ∙ accepted-reading (length work) (length room) (length places) text g.read g.is)
 
-  pub text-item : {lookup : List ℕ → ℕ → Answer Found} {items : Meaning → List (List ℕ)} {number : ℕ} {found : List ℕ} → ItemShown lookup items b number found
+  pub text_item : {lookup : List ℕ → ℕ → Answer Found} {items : Meaning → List (List ℕ)} {number : ℕ} {found : List ℕ} → ItemShown lookup items b number found
       → TextItem items (scenario_of work room places text) text number found
-  text-item {items = items} {number = number} f = record {
+  text_item {items = items} {number = number} f = record {
     item = λ m _ q. f.item g.read.meaning its-record ∙ ap (λ (k : Meaning). nth (items k) number) (good-inj _ _ (sym own-meaning ∙ q));
     nothing = λ no. absurd (no (g.read, g.is));
   }
     where
       its-record : IsRecord b g.read.meaning
       its-record = rw g.bytes (accepted-record (length work) (length room) (length places) text g.read g.is)
+
+pub ruleset one_text = (only-lacks, alike-bytes)

@@ -16,7 +16,7 @@ ghost use Rattle.demands.specs.Contract.{RecordRead, LooksUp, Parts};
 ghost use Rattle.demands.specs.Demands.{TreeEnds, TellsRefusal, Compares, lacks, is_good, out_of_range};
 ghost use Rattle.demands.specs.Demands.{ItemShown, step_items, TextItem};
 
-use item::same_bytes;
+use item::{HEADER, same_bytes};
 use record::{Lookup, RecordAnswer, check_record, field, part, step};
 use refusal::{Refusal, Told};
 use scenario::{ScenarioAnswer, read_scenario};
@@ -31,6 +31,7 @@ pub enum Compared {
 }
 
 /// Every reading of a tree ends in one of two ways.
+// This, `scenario_ends` and `record_ends` are statements about three jobs, each in the words of its own answer, so none stands for another.
 #[tactic(auto, using(crate::proofs::Calls::tree_told))]
 pub fn tree_ends(text: &[u8], work: &mut [u8]) -> TreeAnswer
     ensures { TreeEnds text.now work.old work.new result }
@@ -68,11 +69,7 @@ pub fn told(text: &[u8], work: &mut [u8], record: &mut [u8], lines: &mut [u32]) 
 {
     match read_scenario(text, work, record, lines) {
         ScenarioAnswer::Refused(e) => e.told(),
-        ScenarioAnswer::Read { .. } => Told {
-            number: 0,
-            line: 0,
-            step: 0,
-        },
+        ScenarioAnswer::Read { .. } => Told::default(),
     }
 }
 
@@ -154,10 +151,14 @@ pub fn compare_texts(
 fn is_lack(e: Refusal) -> bool
     ensures { result ≡ lacks (told_of e).number }
 {
-    matches!(e.told().number, 50..=52)
+    matches!(
+        e,
+        Refusal::WorkTooShort | Refusal::TooFewLinePlaces | Refusal::RecordTooLong
+    )
 }
 
 /// Whether one text that is read with one lending is read alike with any other, or too little is lent.
+#[tactic(auto, using(crate::proofs::Calls::one_text))]
 pub fn reads_alike(
     text: &[u8],
     work: &mut [u8],
@@ -206,7 +207,9 @@ pub fn step_item(record: &[u8], number: usize) -> &[u8]
 }
 
 /// The item that a place finds in the record of a text.
-// This and `text_step` are short enough to stand side by side.
+// This and `text_step` stand side by side: each is a statement of its own, about a field and about a step, and what they share is
+// `record_of` and `item_of`.
+#[tactic(auto, using(crate::proofs::Calls::text_item))]
 pub fn text_field<'a>(
     text: &[u8],
     work: &mut [u8],
@@ -224,6 +227,7 @@ pub fn text_field<'a>(
 }
 
 /// The item that a step's number finds in the record of a text.
+#[tactic(auto, using(crate::proofs::Calls::text_item))]
 pub fn text_step<'a>(
     text: &[u8],
     work: &mut [u8],
@@ -245,7 +249,7 @@ pub fn text_step<'a>(
 fn is_out_of_range(found: Lookup) -> bool
     ensures { result ≡ out_of_range (lookup_of found) }
 {
-    matches!(found, Lookup::Refused(e) if e.told().number == 53)
+    matches!(found, Lookup::Refused(Refusal::OutOfRange))
 }
 
 // Whether a lookup refuses this number so, unless it is one from 1 to the count.
@@ -266,6 +270,7 @@ fn refuses_others<L: Fn(&[u8], usize) -> Lookup>(
 }
 
 /// Whether a good record has every place but 1 to 8 refused with 53.
+// A statement of its own beside `refuses_other_numbers`; what both share is `refuses_others`.
 pub fn refuses_other_places(record: &[u8], place: usize) -> bool
     ensures { result ≡ true }
 {
@@ -314,5 +319,5 @@ pub fn lookups_fill(record: &[u8]) -> bool
     let Lookup::Found { start, .. } = field(record, 8) else {
         return false;
     };
-    fill(record, field, 8, 6) && fill(record, step, steps, start + 6)
+    fill(record, field, 8, HEADER) && fill(record, step, steps, start + HEADER)
 }

@@ -32,6 +32,7 @@ enum State {
 pub trait Answer {
     ghost as_told: { Self → List ℕ };
 
+    /// Those numbers; the first is the result too.
     fn numbers(self) -> [u64; 5]
         ensures told { result ≡ as_told self }
         ensures first { first_of result < 2 ^ 32 };
@@ -44,9 +45,9 @@ fn refused(e: Refusal) -> [u64; 5]
     let told = e.told();
     [
         State::Refused as u64,
-        told.number as u64,
-        told.line as u64,
-        told.step as u64,
+        u64::from(told.number),
+        u64::from(told.line),
+        u64::from(told.step),
         0,
     ]
 }
@@ -129,7 +130,7 @@ impl Answer for TimesAnswer {
 
     fn numbers(self) -> [u64; 5] {
         match self {
-            TimesAnswer::Times(n) => [State::Accepted as u64, n as u64, 0, 0, 0],
+            TimesAnswer::Times(n) => [State::Accepted as u64, u64::from(n), 0, 0, 0],
             TimesAnswer::Refused(e) => refused(e),
         }
     }

@@ -1,6 +1,6 @@
 // The jobs for programs in C and Rust. A name for C is a function of the crate that is linked, so each calls the function of `drum` with its
-// name, and states its clauses again. What is lent
-// comes as a pointer and a length, but for the eight numbers of a share. include/drum.h says this to C.
+// name, and states its clauses again. What is lent comes as a pointer and a length, but for the eight numbers of a share. include/drum.h says
+// this to C.
 #![tactic(auto)]
 
 ghost use Rattle.std.specs.Prelude.{◌≡◌, length};

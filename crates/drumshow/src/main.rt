@@ -5,7 +5,7 @@
 mod written;
 
 use console::{Numbers, read_at_most};
-use item::{Items, Kind};
+use item::{HEADER, Items, Kind, LIMIT};
 use record::{RecordAnswer, check_record, part};
 use std::io;
 use std::io::{BufWriter, Write};
@@ -52,11 +52,11 @@ fn print_items(out: &mut impl Write, holder: Kind, content: &[u8], deep: usize) 
 }
 
 fn main(rt: HostRuntime) -> io::Result<()> {
-    let record = read_at_most(rt.alloc(), rt.reader(), 1048577)?;
+    let record = read_at_most(rt.alloc(), rt.reader(), LIMIT as u64 + 1)?;
     let mut out = BufWriter::new(rt.alloc(), io::writer(&rt))?;
     match check_record(&record) {
         RecordAnswer::Good { .. } => {
-            let fields = part(&record, 6, record.len());
+            let fields = part(&record, HEADER, record.len());
             print_items(&mut out, Kind::Scenario, fields, 0)?;
         }
         RecordAnswer::Refused(e) => writeln!(out, "refused {}", Numbers(e))?,

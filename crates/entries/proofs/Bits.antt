@@ -1,5 +1,5 @@
 -- Bits that were put into words stay there. Assumes nothing.
-use Rattle.std.proofs.Common.{◌≡◌, refl, sym, ap, ◌∙◌, ℕ, ◌+◌, ◌*◌, ◌/◌, ◌%◌, ◌≤◌, min, max, arith, List, Bool, true, false, bit_and, bit_or, eqb, length, get_or, set, length-set, get_or-set_same, get_or-set_other, eq-eqb, eqb-true}
+use Rattle.std.proofs.Common.{◌≡◌, refl, sym, ap, ◌∙◌, subst, nat_eq, slice_set, slice_index_or, ℕ, ◌+◌, ◌*◌, ◌/◌, ◌%◌, ◌≤◌, min, max, arith, List, Bool, true, false, bit_and, bit_or, eqb, length, get_or, set, length-set, get_or-set_same, get_or-set_other, eq-eqb, eqb-true}
 use Rattle.std.proofs.lemmas.Bool.{false≢true, eqb-false}
 use Rattle.std.proofs.lemmas.Nat.{or_comm}
 use Rattle.std.proofs.Math.Nat.{min-le_left, min-le_right, le-max_left, min-eq_right, max-le}
@@ -52,3 +52,10 @@ module _ (l : List ℕ) (h : ℕ) (long : length l ≡ 2048) where
           ap (λ (j : ℕ). bit_and (get_or new j 0) (bits_of g)) i ∙ ap (λ (w : ℕ). bit_and w (bits_of g)) put
           ∙ and_kept (bits_of g) word (bits_of h) (ap (λ (j : ℕ). bit_and (get_or l j 0) (bits_of g)) (sym i) ∙ e)
       at g e false q = ap (λ (w : ℕ). bit_and w (bits_of g)) (get_or-set_other l (h % 2048) (g % 2048) (bit_or word (bits_of h)) 0 (eqb-false _ _ q)) ∙ e
+
+-- as code puts them in
+pub marked_by : (l : List ℕ) (h bits : ℕ) → length l ≡ 2048 → bits ≡ bits_of h
+    → Marked l (slice_set l (h % 2048) (bit_or (slice_index_or l (h % 2048) 0) bits)) h (nat_eq (bit_and (slice_index_or l (h % 2048) 0) bits) bits)
+marked_by l h bits long e =
+    let word = get_or l (h % 2048) 0 in
+    subst (λ (b : ℕ). Marked l (set l (h % 2048) (bit_or word b)) h (eqb (bit_and word b) b)) (sym e) (marked l h long)

@@ -1,13 +1,13 @@
 -- Runs of keys in their order: the search for a key, and a key put in at its index. Assumes nothing.
 use Rattle.std.proofs.lemmas.Bool.{false≢true}
-use Rattle.std.proofs.Common.{Ordering, Less, Equal, Greater, ◌≡◌, sym, ap, ◌∙◌, subst, ⊎_elim, ℕ, ◌+◌, ◌-◌, ◌^◌, ◌≤◌, ◌<◌, arith, List, le-leb, length, take, drop, get_or}
+use Rattle.std.proofs.Common.{Ordering, Less, Equal, Greater, ◌≡◌, sym, ap, ◌∙◌, subst, ⊎_elim, ℕ, ◌+◌, ◌-◌, ◌^◌, ◌≤◌, ◌<◌, arith, refl, List, length, take, drop, get_or}
 use Rattle.std.specs.Ordering.{ordering_reverse, ordering_then, nat_cmp, is_eq}
 use Rattle.std.specs.FinMap.{slice_cmp-IsAntisymmetric, nat_cmp-IsAntisymmetric}
 use Rattle.std.specs.Cmp.{IsTotalOrder, nat_cmp_total, on_total, then_total}
 use Rattle.std.specs.Cmp.Lexicographic.{slice_cmp, nat_list_cmp_total}
 use Rattle.refusal.proofs.Tools.{split}
 use Rattle.entries.specs.declared.sorted.KeyPlace.{KeyPlace}
-use Rattle.entries.specs.Contract.{key_cmp, key_of, blank, key_in, Run, Held, Gap, Inserted}
+use Rattle.entries.specs.Contract.{key_cmp, key_of, blank, key_in, Inside, InOrder, Held, Gap, Inserted}
 
 -- ---- the order
 
@@ -25,9 +25,9 @@ pub record Moved (old new : List KeyPlace) (n index : ℕ) : Type 0 where
   pub before : (i : ℕ) → i < index → get_or new i blank ≡ get_or old i blank
   pub behind : (i : ℕ) → index ≤ i → i < n → get_or new (i + 1) blank ≡ get_or old i blank
 
-pub place-key : (s : List ℕ) (place : KeyPlace) → place.end ≤ length s → key_of s place ≡ take (place.end - place.start) (drop place.start s)
+pub place-key : (s : List ℕ) (place : KeyPlace) → key_of s place ≡ take (place.end - place.start) (drop place.start s)
 unfolding key_of
-place-key s place h = rw (le-leb place.end (length s) h)
+place-key s place = refl
 
 module _ {old new : List KeyPlace} {n index : ℕ} {place : KeyPlace} (p : Inserted old new n index place) (fits : index ≤ n) where
   -- where a place was before
@@ -58,10 +58,11 @@ module _ {old new : List KeyPlace} {n index : ℕ} {place : KeyPlace} (p : Inser
       (λ l. record { index = h.index + 1; below = omega (arith, h.below); is = ap (key_of s) (p.behind h.index l h.below) ∙ h.is })
       (split h.index index)
 
-  pub run_on : {s : List ℕ} → Run s old n → Gap s old n (key_of s place) index → n < 2 ^ 11 → Run s new (n + 1)
-  run_on {s} r g m = record {
+  pub run_on : {s : List ℕ} → InOrder s old n → Inside s place → Gap s old n (key_of s place) index → n < 2 ^ 11 → InOrder s new (n + 1)
+  run_on {s} r h g m = record {
     size = p.size ∙ r.size;
     few = omega arith;
+    inside = each_on (Inside s) h r.inside;
     rising = λ i j l h. go i j l (was i (omega arith)) (was j h);
   }
     where
@@ -102,7 +103,7 @@ pub record Between (s : List ℕ) (run : List KeyPlace) (n : ℕ) (key : List �
   pub behind : (i : ℕ) → high ≤ i → i < n → key_cmp key (key_in s run i) ≡ Less
 
 module _ {s : List ℕ} {run : List KeyPlace} {n : ℕ} {key : List ℕ} {low high : ℕ} (b : Between s run n key low high) where
-  module _ (r : Run s run n) (i : ℕ) (after : low ≤ i) (until : i < high) where
+  module _ (r : InOrder s run n) (i : ℕ) (after : low ≤ i) (until : i < high) where
     pub between-same : key_cmp (key_in s run i) key ≡ Equal → Held s run n key
     between-same e = record { index = i; below = omega (arith, b.within); is = key-same _ key e }
 

@@ -107,11 +107,11 @@ module _ (p : List ℕ → Bool) where
       (λ f. or_right (p j && has_key j (join a (pair k v b))) _ (twice-join a k v b e f))
       (either (same j k) (has_key k a) h)
 
-  pub twice-whole : (es : Entries) → twice_in p es ≡ true → key_twice es ≡ true
+  pub twice_whole : (es : Entries) → twice_in p es ≡ true → key_twice es ≡ true
   unfolding twice_in key_twice
-  twice-whole done e = e
-  twice-whole (pair k v es) e = ⊎_elim (λ a. or_left (has_key k es) (key_twice es) (and_right (p k) (has_key k es) a))
-      (λ b. or_right (has_key k es) (key_twice es) (twice-whole es b)) (either (p k && has_key k es) (twice_in p es) e)
+  twice_whole done e = e
+  twice_whole (pair k v es) e = ⊎_elim (λ a. or_left (has_key k es) (key_twice es) (and_right (p k) (has_key k es) a))
+      (λ b. or_right (has_key k es) (key_twice es) (twice_whole es b)) (either (p k && has_key k es) (twice_in p es) e)
 
 module _ (class last : ℕ) (k : List ℕ) where
   pub of_class_lem : of_class class last k ≡ true → bit_and (hash_of k / 2 ^ 28) last ≡ class
@@ -140,15 +140,18 @@ class-done class last es h e n i = go (eqb n class) refl
     go true q = subst (λ (m : ℕ). twice_in (of_class m last) es ≡ false) (sym (eqb-true n class q)) e
     go false q = let u : n ≡ class → ⊥ = eqb-false n class q in h n (omega (arith, u))
 
+pub classes_done : (class last : ℕ) (es : Entries) → last ≤ class → ((n : ℕ) → n < class → twice_in (of_class n last) es ≡ false) → twice_in (of_class class last) es ≡ false → false ≡ key_twice es
+classes_done class last es l h e = sym (no-class last es (λ n i. class-done class last es h e n (omega arith)))
+
 -- ---- each key searched for behind it
 
 pub judged-none : {s : List ℕ} {from to : ℕ} (es : Entries) → Lies s from to es → LeftOver s to from es
 judged-none es h = record { rest = es; lies = h; whole = refl }
 
 module _ {s : List ℕ} {to at : ℕ} {es : Entries} (w : LeftOver s to at es) where
-  pub judged-all : to ≤ at → false ≡ key_twice es
+  pub judged_all : to ≤ at → false ≡ key_twice es
   unfolding key_twice
-  judged-all h = sym (w.whole ∙ ap key_twice (no_more w.rest h w.lies))
+  judged_all h = sym (w.whole ∙ ap key_twice (no_more w.rest h w.lies))
 
   module _ {p : Pair} (t : Turn s at to w.rest p) where
     opened : {b : Bool} → has_key t.entry.k t.entry.others ≡ b → key_twice es ≡ b || key_twice t.entry.others

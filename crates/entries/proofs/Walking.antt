@@ -1,6 +1,6 @@
 -- Entries and items from the front, by their places, and the search among them. Assumes nothing.
 use Rattle.std.specs.Prelude.{if◌then◌else◌}
-use Rattle.std.proofs.Math.Option.{none, some, some-injective}
+use Rattle.std.proofs.Math.Option.{some, some-injective}
 use Rattle.refusal.specs.Base.{same}
 use Rattle.item.specs.Tree.{Yaml, Items, end, ◌▸◌, Entries, done, pair, has_key, get, Ranged}
 use Rattle.item.specs.Encode.{item, encode, kind_of}
@@ -19,7 +19,7 @@ use Rattle.item.specs.declared.walk.Walk.{Walk}
 use Rattle.std.proofs.Common.{Bor, ◌≡◌, refl, sym, ap, ◌∙◌, subst, ℕ, ◌+◌, ◌-◌, ◌≤◌, ◌<◌, ◌^◌, arith, List, ◌++◌, Bool, true, false, ◌||◌, length, take, drop, length-append, length-take, length-drop, take-append-drop}
 use Rattle.entries.specs.declared.Pair.{Pair}
 use Rattle.entries.specs.declared.Span.{Span}
-use Rattle.entries.specs.Entries.{Stands, Lies, Holds, Places, PairPlaces, Paired, with_value, with_key, pair_at, place_of, SoughtAt, Seeks, Finds, span_at}
+use Rattle.entries.specs.Entries.{Stands, Lies, Holds, Places, PairPlaces, Paired, with_value, with_key, pair_at, place_of, Seeks, Finds, span_at}
 use Rattle.entries.proofs.Standing.{stands-left, stands-right, stands_at, stands-part, item-head, item-content, value-head}
 
 -- ---- an entry
@@ -159,8 +159,8 @@ pair_places s at = go (header_at s at) refl
     go (Ok key) h = beside key h (header_at s key.to) refl
     go (Err broken) h = tt
 
-pub paired : (s : List ℕ) (at : ℕ) → Paired s at (pair_at s at)
-paired s at k v es w st = pair_is k v es st w
+pub paired : {s : List ℕ} {at : ℕ} {r : Result Pair Broken} → r ≡ pair_at s at → Paired s at r
+paired e = record { is = λ k v es w st. e ∙ pair_is k v es st w }
 
 pub places_of : (s : List ℕ) (at : ℕ) {p : Pair} → pair_at s at ≡ Ok p → Places s at p.start p.end p.next
 places_of s at e = subst (PairPlaces s at) e (pair_places s at)
@@ -229,47 +229,49 @@ cut {to = to} a b places h g =
 pub lies_in : {whole part : Bor (List ℕ)} {start end from to : ℕ} {es : Entries} → Cut whole part start end from to → Lies whole.now from to es → Lies part.now start end es
 lies_in c h = rw (c.bytes, c.first, c.last) h
 
+-- by what `has_key` ensures of it
+pub has_in : {whole part : Bor (List ℕ)} {start end from to : ℕ} {es : Entries} {b : Bool} (key : List ℕ) → Cut whole part start end from to → Lies whole.now from to es
+    → ((fs : Entries) → take (end - start) (drop start part.now) ≡ encode fs → b ≡ has_key key fs) → b ≡ has_key key es
+has_in {es = es} key c h e = e es (rw (c.bytes, c.first, c.last) (stands-part h.stands _ (omega (arith, h.ends))))
+
 -- ---- the search for a key
 
--- what is left to search decides as all of it does
+-- among what is left to search the key stands where it stands among all
 pub record Sought (s key : List ℕ) (from to at : ℕ) (es : Entries) : Type 0 where
   pub rest : Entries
   pub lies : Lies s at to rest
-  pub same_value : get key es ≡ get key rest
   pub same_place : place_of key from es ≡ place_of key at rest
 
-module _ {s key : List ℕ} {from to at : ℕ} {es : Entries} (w : Sought s key from to at es) (h : to ≤ at) where
-  pub search-end : get key es ≡ none
-  unfolding get
-  search-end = w.same_value ∙ ap (get key) (no_more w.rest h w.lies)
-
-  pub place_end : found.Nothing ≡ place_of key from es
+module _ {s key : List ℕ} {from to at : ℕ} {es : Entries} (w : Sought s key from to at es) where
+  pub place_end : to ≤ at → found.Nothing ≡ place_of key from es
   unfolding place_of
-  place_end = sym (w.same_place ∙ ap (place_of key at) (no_more w.rest h w.lies))
+  place_end h = sym (w.same_place ∙ ap (place_of key at) (no_more w.rest h w.lies))
 
-module _ {s key : List ℕ} {from to at : ℕ} {es : Entries} {p : Pair} (w : Sought s key from to at es) (t : Turn s at to w.rest p) where
-  here : {b : Bool} → same (take (p.end - p.start) (drop p.start s)) key ≡ b → get key es ≡ (if b then some t.entry.v else get key t.entry.others)
-  unfolding get
-  here {b} e = w.same_value ∙ ap (get key) t.entry.is ∙ ap (λ (l : Bool). if l then some t.entry.v else get key t.entry.others) (ap (λ (l : List ℕ). same l key) (sym t.key_is) ∙ e)
+  module _ {p : Pair} (t : Turn s at to w.rest p) where
+    placed : {b : Bool} → same (take (p.end - p.start) (drop p.start s)) key ≡ b → place_of key from es ≡ (if b then found.At p.end else place_of key p.next t.entry.others)
+    unfolding place_of
+    placed {b} e =
+        w.same_place ∙ ap (place_of key at) t.entry.is
+        ∙ ap (λ (i : ℕ). if same t.entry.k key then found.At i else place_of key (i + length (encode t.entry.v)) t.entry.others) (sym t.value_place)
+        ∙ ap (λ (i : ℕ). if same t.entry.k key then found.At p.end else place_of key i t.entry.others) (omega (arith, t.value_place, t.next_place))
+        ∙ ap (λ (l : Bool). if l then found.At p.end else place_of key p.next t.entry.others) (ap (λ (l : List ℕ). same l key) (sym t.key_is) ∙ e)
 
-  placed : {b : Bool} → same (take (p.end - p.start) (drop p.start s)) key ≡ b → place_of key from es ≡ (if b then found.At p.end else place_of key p.next t.entry.others)
-  unfolding place_of
-  placed {b} e =
-      w.same_place ∙ ap (place_of key at) t.entry.is
-      ∙ ap (λ (i : ℕ). if same t.entry.k key then found.At i else place_of key (i + length (encode t.entry.v)) t.entry.others) (sym t.value_place)
-      ∙ ap (λ (i : ℕ). if same t.entry.k key then found.At p.end else place_of key i t.entry.others) (omega (arith, t.value_place, t.next_place))
-      ∙ ap (λ (l : Bool). if l then found.At p.end else place_of key p.next t.entry.others) (ap (λ (l : List ℕ). same l key) (sym t.key_is) ∙ e)
+    pub place_found : same (take (p.end - p.start) (drop p.start s)) key ≡ true → found.At p.end ≡ place_of key from es
+    place_found e = sym (placed e)
 
-  pub search-found : same (take (p.end - p.start) (drop p.start s)) key ≡ true → SoughtAt s (get key es) p.end
-  search-found e = record { value = t.entry.v; is = here e; stands = t.value }
+    pub search-on : same (take (p.end - p.start) (drop p.start s)) key ≡ false → Sought s key from to p.next es
+    search-on e = record { rest = t.entry.others; lies = t.behind; same_place = placed e }
 
-  pub place_found : same (take (p.end - p.start) (drop p.start s)) key ≡ true → found.At p.end ≡ place_of key from es
-  place_found e = sym (placed e)
+-- ---- what stands at a key's place
 
-  pub search-on : same (take (p.end - p.start) (drop p.start s)) key ≡ false → Sought s key from to p.next es
-  search-on e = record { rest = t.entry.others; lies = t.behind; same_value = here e; same_place = placed e }
-
--- ---- what was found
+pub place_of-seeks : {s : List ℕ} (key : List ℕ) (at : ℕ) (es : Entries) → Stands s at (encode es) → Seeks s (get key es) (place_of key at es)
+unfolding get place_of
+place_of-seeks key at done st = refl
+place_of-seeks {s} key at (pair k v es) st = go _ (same k key) (place_of-seeks key (at + 6 + length k + length (encode v)) es (others-stand k v es st))
+  where
+    go : (r : Found) (b : Bool) → Seeks s (get key es) r → Seeks s (if b then some v else get key es) (if b then found.At (at + 6 + length k) else r)
+    go r true more = record { value = v; is = refl; stands = value-stands k v es st }
+    go r false more = more
 
 get-ranged : (k : List ℕ) (es : Entries) {v : Yaml} → Ranged es → get k es ≡ some v → Ranged v
 unfolding get
@@ -280,34 +282,30 @@ get-ranged k (pair j u es) {v} r e = go (same j k) (get-ranged k es r.1) e
     go true more e = subst Ranged (some-injective u v e) r.0
     go false more e = more e
 
-pub finds : {s : List ℕ} {from to : ℕ} (key : List ℕ) (es : Entries) (r : Found) → Holds s from to es → Seeks s (get key es) r → Finds s (get key es) r
-finds key es (found.At p) h f = record { value = f.value; is = f.is; ranged = get-ranged key es h.ranged f.is; stands = f.stands }
-finds key es found.Nothing h f = f
-
-has-get : (k : List ℕ) (es : Entries) → has_key k es ≡ true → get k es ≡ none → ⊥
-unfolding get has_key
-has-get k done h e = let z : ◌≡◌ {A = ℕ} 0 1 = cc in omega arith
-has-get k (pair j v es) h e = go (same j k) (has-get k es) h e
+pub finds : {s : List ℕ} {from to : ℕ} {r : Found} (key : List ℕ) (es : Entries) → Holds s from to es → r ≡ place_of key from es → Finds s (get key es) r
+finds {s} {from} {r = r} key es h e = go r (subst (Seeks s (get key es)) (sym e) (place_of-seeks key from es h.lies.stands))
   where
-    go : (b : Bool) → (has_key k es ≡ true → get k es ≡ none → ⊥) → (b || has_key k es) ≡ true → (if b then some v else get k es) ≡ none → ⊥
-    go true more h e = let z : ◌≡◌ {A = ℕ} 0 1 = cc in omega arith
-    go false more h e = more h e
+    go : (q : Found) → Seeks s (get key es) q → Finds s (get key es) q
+    go (found.At p) f = record { value = f.value; is = f.is; ranged = get-ranged key es h.ranged f.is; stands = f.stands }
+    go found.Nothing f = f
 
-pub key-there : (k : List ℕ) (es : Entries) {v : Yaml} → get k es ≡ some v → true ≡ has_key k es
-unfolding get has_key
-key-there k done e = absurd (let z : ◌≡◌ {A = ℕ} 0 1 = cc in omega arith)
-key-there k (pair j u es) {v} e = go (same j k) (key-there k es) e
+pub key-there : (key : List ℕ) (at : ℕ) (es : Entries) {p : ℕ} → place_of key at es ≡ found.At p → true ≡ has_key key es
+unfolding place_of has_key
+key-there key at done e = absurd (let z : ◌≡◌ {A = ℕ} 0 1 = cc in omega arith)
+key-there key at (pair k v es) {p} e = go (same k key) (key-there key (at + 6 + length k + length (encode v)) es) e
   where
-    go : (b : Bool) → (get k es ≡ some v → true ≡ has_key k es) → (if b then some u else get k es) ≡ some v → true ≡ (b || has_key k es)
+    go : {r : Found} (b : Bool) → (r ≡ found.At p → true ≡ has_key key es) → (if b then found.At (at + 6 + length k) else r) ≡ found.At p → true ≡ (b || has_key key es)
     go true more e = refl
     go false more e = more e
 
-pub key-missing : (k : List ℕ) (es : Entries) → get k es ≡ none → false ≡ has_key k es
-key-missing k es e = go (has_key k es) refl
+pub key-missing : (key : List ℕ) (at : ℕ) (es : Entries) → place_of key at es ≡ found.Nothing → false ≡ has_key key es
+unfolding place_of has_key
+key-missing key at done e = refl
+key-missing key at (pair k v es) e = go (same k key) (key-missing key (at + 6 + length k + length (encode v)) es) e
   where
-    go : (b : Bool) → has_key k es ≡ b → false ≡ b
-    go false h = refl
-    go true h = absurd (has-get k es h e)
+    go : {r : Found} (b : Bool) → (r ≡ found.Nothing → false ≡ has_key key es) → (if b then found.At (at + 6 + length k) else r) ≡ found.Nothing → false ≡ (b || has_key key es)
+    go true more e = absurd (let z : ◌≡◌ {A = ℕ} 0 1 = cc in omega arith)
+    go false more e = more e
 
 -- entries by the bytes between two places
 pub lies-between : (s : List ℕ) (from to : ℕ) (es : Entries) → from ≤ to → to ≤ length s → take (to - from) (drop from s) ≡ encode es → Lies s from to es
@@ -321,3 +319,6 @@ lies-between s from to es h g e =
       };
       ends = omega arith;
     }
+
+-- a key that was looked for in a part
+pub ruleset keys = (key-there, key-missing, lies-between)

@@ -1,6 +1,6 @@
 -- Section 5 of document 01, for the contracts inside the crate: the bits by which keys are told to be new, the classes in which they are
 -- judged, and the order in which they are looked up. Uses Tree of `item`, and Entries. Assumes nothing.
-use Rattle.std.specs.Prelude.{◌≡◌, ℕ, ◌+◌, ◌*◌, ◌-◌, ◌/◌, ◌%◌, ◌^◌, ◌≤◌, ◌<◌, List, [], ◌∷◌, Bool, true, false, ◌&&◌, ◌||◌, eqb, leb, length, take, drop, get_or, Option, Some, None, Result, Ok, Err, if◌then◌else◌}
+use Rattle.std.specs.Prelude.{◌≡◌, ℕ, ◌+◌, ◌*◌, ◌-◌, ◌/◌, ◌%◌, ◌^◌, ◌≤◌, ◌<◌, List, [], ◌∷◌, Bool, true, false, ◌&&◌, ◌||◌, eqb, length, take, drop, get_or, Option, Some, None, Result, Ok, Err}
 use Rattle.std.specs.Int.Bits.{bit_and, bit_or}
 use Rattle.std.specs.declared.cmp.Ordering.{Ordering}
 use Rattle.std.specs.declared.cmp.Ordering.TheVariants.{Less}
@@ -51,9 +51,14 @@ of_class class last k = eqb (bit_and (hash_of k / 2 ^ 28) last) class
 abbrev pub key_cmp : List ℕ → List ℕ → Ordering
 key_cmp a b = ordering_then (nat_cmp (length a) (length b)) (slice_cmp nat_cmp a b)
 
--- a key by its places; none where they are not within the bytes
+-- a key's places that lie within some bytes
+pub record Inside (s : List ℕ) (place : KeyPlace) : Type 0 where
+  pub order : place.start ≤ place.end
+  pub fits : place.end ≤ length s
+
+-- a key by its places
 unfoldable pub key_of : List ℕ → KeyPlace → List ℕ
-key_of s place = if leb place.end (length s) then take (place.end - place.start) (drop place.start s) else []
+key_of s place = take (place.end - place.start) (drop place.start s)
 
 abbrev pub blank : KeyPlace
 blank = record { start = 0; end = 0 }
@@ -63,9 +68,10 @@ abbrev pub key_in : List ℕ → List KeyPlace → ℕ → List ℕ
 key_in s run i = key_of s (get_or run i blank)
 
 -- the first places of some, of keys that rise
-pub record Run (s : List ℕ) (run : List KeyPlace) (n : ℕ) : Type 0 where
+pub record InOrder (s : List ℕ) (run : List KeyPlace) (n : ℕ) : Type 0 where
   pub size : length run ≡ 2 ^ 11
   pub few : n ≤ 2 ^ 11
+  pub inside : (i : ℕ) → i < n → Inside s (get_or run i blank)
   pub rising : (i j : ℕ) → i < j → j < n → key_cmp (key_in s run i) (key_in s run j) ≡ Less
 
 -- a key that is one of them

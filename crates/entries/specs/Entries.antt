@@ -9,6 +9,7 @@ use Rattle.item.specs.Places.{header_at}
 use Rattle.item.specs.declared.Item.{Item}
 use Rattle.item.specs.declared.Broken.{Broken}
 use Rattle.item.specs.declared.Found.{Found}
+use Rattle.item.specs.declared.encoded.Part.{Part}
 use Rattle.item.specs.declared.Found.TheVariants as found
 use Rattle.entries.specs.declared.Pair.{Pair}
 use Rattle.entries.specs.declared.Span.{Span}
@@ -38,6 +39,13 @@ pub record Holds {sh : Shape} (s : List ℕ) (from to : ℕ) (n : Node sh) : Typ
   pub ranged : Ranged n
   pub lies : Lies s from to n
 
+-- the same of what stands in a part
+abbrev pub LiesIn : {sh : Shape} → Part → Node sh → Type 0
+LiesIn part n = Lies part.bytes.now part.from part.to n
+
+abbrev pub HoldsIn : {sh : Shape} → Part → Node sh → Type 0
+HoldsIn part n = Holds part.bytes.now part.from part.to n
+
 -- ---- an entry
 
 -- the entry at a place, by its key's header and its value's
@@ -64,10 +72,9 @@ PairPlaces s at (Ok entry) = Places s at entry.start entry.end entry.next
 PairPlaces s at (Err broken) = Unit {0}
 
 -- its places, where an entry stands
-abbrev pub Paired : List ℕ → ℕ → Result Pair Broken → Type 0
-Paired s at r =
-    (k : List ℕ) (v : Yaml) (es : Entries) → length s ≤ 2 ^ 20 → Stands s at (encode (pair k v es))
-    → r ≡ Ok (record { start = at + 6; end = at + 6 + length k; kind = kind_of v; next = at + 6 + length k + length (encode v) })
+pub record Paired (s : List ℕ) (at : ℕ) (r : Result Pair Broken) : Type 0 where
+  pub is : (k : List ℕ) (v : Yaml) (es : Entries) → length s ≤ 2 ^ 20 → Stands s at (encode (pair k v es))
+      → r ≡ Ok (record { start = at + 6; end = at + 6 + length k; kind = kind_of v; next = at + 6 + length k + length (encode v) })
 
 -- ---- a key's value
 

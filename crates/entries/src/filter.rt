@@ -2,12 +2,12 @@
 // already, the exact search decides. Where too many keys share their bits, as keys can be made to, the keys are put in order instead.
 ghost use Rattle.std.specs.Prelude.{◌≡◌, ◌<◌, ◌^◌, IfOk, length};
 ghost use Rattle.item.specs.Tree.{Entries};
-ghost use Rattle.entries.specs.Entries.{Lies, key_twice};
+ghost use Rattle.entries.specs.Entries.{LiesIn, key_twice};
 ghost use Rattle.entries.specs.Contract.{hash_of, bits_of, Marked, twice_in, of_class};
 
 use crate::sorted::sorted_repeats;
-use crate::{Pair, has_key, nth_item, search};
-use item::{Found, Part};
+use crate::{Pair, has_key, nth_item};
+use item::{HEADER, Part};
 
 // As many words as hold the bits of a class.
 const WORDS: usize = 2048;
@@ -21,32 +21,32 @@ struct Crowded;
 fn hash(key: &[u8]) -> usize
     ensures { result ≡ hash_of key.now }
 {
-    let mut h: usize = 0;
-    for &b in key {
-        h = (h + b as usize + 1) * 16777619 % 4294967296;
+    let mut hash: usize = 0;
+    for &byte in key {
+        hash = (hash + byte as usize + 1) * 16777619 % 4294967296;
     }
-    h
+    hash
 }
 
 // Up to three bits of a word.
 #[tactic(auto, unfolding(crate::specs::Contract::bits_of, crate::specs::Contract::bit))]
-fn bits_of(h: usize) -> usize
-    ensures { result ≡ bits_of h }
+fn bits_of(hash: usize) -> usize
+    ensures { result ≡ bits_of hash }
 {
-    let a: usize = 1 << (h / WORDS % 64);
-    let b: usize = 1 << (h / 131072 % 64);
-    let c: usize = 1 << (h / 8388608 % 64);
-    a | b | c
+    let first: usize = 1 << (hash / WORDS % 64);
+    let second: usize = 1 << (hash / 131072 % 64);
+    let third: usize = 1 << (hash / 8388608 % 64);
+    first | second | third
 }
 
 // Whether the bits of a hash were there; now they are.
-fn mark(seen: &mut [usize; WORDS], h: usize) -> bool
-    ensures { Marked seen.old seen.new h result }
+fn mark(seen: &mut [usize; WORDS], hash: usize) -> bool
+    ensures { Marked seen.old seen.new hash result }
 {
-    let i = h % WORDS;
-    let bits = bits_of(h);
-    let old = seen[i];
-    seen[i] = old | bits;
+    let index = hash % WORDS;
+    let bits = bits_of(hash);
+    let old = seen[index];
+    seen[index] = old | bits;
     old & bits == bits
 }
 
@@ -60,7 +60,7 @@ fn class_repeats(
     seen: &mut [usize; WORDS],
 ) -> Result<bool, Crowded>
     ensures seen_len { length seen.new ≡ 2 ^ 11 }
-    ensures told { (es : Entries) → Lies part.entry.bytes.now part.entry.from part.entry.to es → IfOk result (λ told. told ≡ twice_in (of_class class last) es) }
+    ensures told { (es : Entries) → LiesIn part.entry es → IfOk result (λ told. told ≡ twice_in (of_class class last) es) }
 {
     seen.fill(0);
     let mut spare: usize = 32;
@@ -69,11 +69,11 @@ fn class_repeats(
             return Ok(false);
         };
         let key = &part.bytes[pair.start..pair.end];
-        let h = hash(key);
-        let is_of_class = (h / 268435456) & last == class;
-        if is_of_class && mark(seen, h) {
+        let hash = hash(key);
+        let is_of_class = (hash / 268435456) & last == class;
+        if is_of_class && mark(seen, hash) {
             // The entries before this one end where its key's header begins.
-            let before = part.encoded().part(part.from, pair.start - 6);
+            let before = part.encoded().part(part.from, pair.start - HEADER);
             if has_key(before, key) {
                 return Ok(true);
             }
@@ -89,9 +89,10 @@ fn class_repeats(
 // The classes one after the other. Kept out of its caller's frame, so that its bits and the keys that are put in order never lie on the
 // stack together; both are gone before another mapping is read, so that depth costs none.
 #[inline(never)]
+#[tactic(auto, using(crate::proofs::Twice::twice_whole, crate::proofs::Twice::classes_done))]
 fn filter_repeats(part: Part<'_>, last: usize) -> Result<bool, Crowded>
     requires { last < 2 ^ 4 }
-    ensures { (es : Entries) → Lies part.entry.bytes.now part.entry.from part.entry.to es → IfOk result (λ told. told ≡ key_twice es) }
+    ensures { (es : Entries) → LiesIn part.entry es → IfOk result (λ told. told ≡ key_twice es) }
 {
     let mut seen = [0usize; WORDS];
     for class in 0..=last {
@@ -105,22 +106,22 @@ fn filter_repeats(part: Part<'_>, last: usize) -> Result<bool, Crowded>
 // Each key is searched for among those behind it.
 #[tactic(auto, using(crate::proofs::Walking::places_of))]
 fn few_repeat(part: Part<'_>) -> bool
-    ensures { (es : Entries) → Lies part.entry.bytes.now part.entry.from part.entry.to es → result ≡ key_twice es }
+    ensures { (es : Entries) → LiesIn part.entry es → result ≡ key_twice es }
 {
     for pair in part.walk::<Pair>() {
         let Ok(pair) = pair else {
             return false;
         };
         let others = part.encoded().part(pair.next, part.to);
-        let behind = search(others, &part.bytes[pair.start..pair.end]);
-        if let Found::At(_) = behind {
+        if has_key(others, &part.bytes[pair.start..pair.end]) {
             return true;
         }
     }
     false
 }
 
-// Whether more than so many items stand in a part; each has six bytes and more.
+// Whether more than so many items stand in a part; each has six bytes and more. No contract: the answer picks among ways that all tell
+// the same, by how long each takes.
 fn has_more(part: Part<'_>, items: usize) -> bool {
     (part.to - part.from) / 6 > items
         && nth_item(part.bytes, part.from, items).is_some_and(|item| item.start < part.to)
@@ -128,7 +129,7 @@ fn has_more(part: Part<'_>, items: usize) -> bool {
 
 fn many_repeat(part: Part<'_>, last: usize) -> bool
     requires { last < 2 ^ 4 }
-    ensures { (es : Entries) → Lies part.entry.bytes.now part.entry.from part.entry.to es → result ≡ key_twice es }
+    ensures { (es : Entries) → LiesIn part.entry es → result ≡ key_twice es }
 {
     match filter_repeats(part, last) {
         Ok(is_twice) => is_twice,
@@ -136,26 +137,29 @@ fn many_repeat(part: Part<'_>, last: usize) -> bool
     }
 }
 
-/// Whether a key stands twice among the entries of a part.
-// Few are quickest compared with each other, and clearing the bits pays from some 24 entries on. Of many, a class has some 4,096, lest its
-// bits be crowded: three bits each of so many fill a tenth.
-pub fn repeats(part: Part<'_>) -> bool
-    ensures { (es : Entries) → Lies part.entry.bytes.now part.entry.from part.entry.to es → result ≡ key_twice es }
+// The last class of many entries: a class has some 4,096 keys, lest its bits be crowded; three bits each of so many fill a tenth.
+fn last_class(part: Part<'_>) -> usize
+    ensures { result < 2 ^ 4 }
 {
-    if part.to - part.from <= 512 {
-        return few_repeat(part);
-    }
-    if !has_more(part, 48) {
-        return few_repeat(part);
-    }
     if has_more(part, 65536) {
-        return many_repeat(part, 15);
+        return 15;
     }
     if has_more(part, 16384) {
-        return many_repeat(part, 7);
+        return 7;
     }
     if has_more(part, 8192) {
-        return many_repeat(part, 1);
+        return 1;
     }
-    many_repeat(part, 0)
+    0
+}
+
+/// Whether a key stands twice among the entries of a part.
+// Few are quickest compared with each other, and clearing the bits pays from some 24 entries on.
+pub fn repeats(part: Part<'_>) -> bool
+    ensures { (es : Entries) → LiesIn part.entry es → result ≡ key_twice es }
+{
+    if part.to - part.from <= 512 || !has_more(part, 48) {
+        return few_repeat(part);
+    }
+    many_repeat(part, last_class(part))
 }

@@ -6,13 +6,13 @@ ghost use Rattle.std.specs.Prelude.{◌≡◌, ◌-◌, take, drop};
 ghost use Rattle.item.specs.Tree.{Entries, has_key, get};
 ghost use Rattle.item.specs.Encode.{encode};
 ghost use Rattle.item.specs.Places.{header_at};
-ghost use Rattle.entries.specs.Entries.{Lies, Holds, pair_at, PairPlaces, Paired, place_of, Seeks, Finds, FoundInside, span_at, nth_item};
+ghost use Rattle.entries.specs.Entries.{LiesIn, HoldsIn, pair_at, PairPlaces, Paired, place_of, Finds, FoundInside, span_at, nth_item};
 
 mod filter;
 mod sorted;
 
 pub use filter::repeats;
-use item::{Broken, Found, Part, Placed, Walk, equal_bytes, header_at};
+use item::{Broken, Found, Part, Placed, equal_bytes, header_at};
 
 /// An item by its places.
 #[derive(Clone, Copy, Debug, PartialEq, Eq)]
@@ -29,8 +29,6 @@ pub struct Pair {
     pub kind: usize,
     pub next: usize,
 }
-
-pub type Pairs<'a> = Walk<'a, Pair>;
 
 impl Placed for Pair {
     ghost reads = { pair_at };
@@ -61,6 +59,7 @@ pub fn item_at(s: &[u8], at: usize) -> Option<Span>
 }
 
 /// The item that stands `skip` items behind the one at `from`.
+// A loop, since `nth` of a walk takes sixteen instructions for an item, and this eleven: a walk asks for its end, too.
 #[tactic(auto, using(crate::proofs::Counting::nth_on, crate::proofs::Counting::nth_lost), unfolding(crate::specs::Entries::nth_item))]
 pub fn nth_item(s: &[u8], from: usize, skip: usize) -> Option<Span>
     ensures { result ≡ nth_item s.now from skip }
@@ -89,12 +88,12 @@ pub fn pair_at(s: &[u8], at: usize) -> Result<Pair, Broken>
     })
 }
 
-/// The search for a key among the entries of a part: the place of its value.
+/// The place of a key's value among the entries of a part.
 #[tactic(auto, using(crate::proofs::Walking::places_of))]
-pub fn search(part: Part<'_>, key: &[u8]) -> Found
+pub fn find(part: Part<'_>, key: &[u8]) -> Found
     ensures found_inside { FoundInside part.entry.bytes.now result }
-    ensures value { (es : Entries) → Lies part.entry.bytes.now part.entry.from part.entry.to es → Seeks part.entry.bytes.now (get key.now es) result }
-    ensures place { (es : Entries) → Lies part.entry.bytes.now part.entry.from part.entry.to es → result ≡ place_of key.now part.entry.from es }
+    ensures value { (es : Entries) → HoldsIn part.entry es → Finds part.entry.bytes.now (get key.now es) result }
+    ensures place { (es : Entries) → LiesIn part.entry es → result ≡ place_of key.now part.entry.from es }
 {
     for pair in part.walk::<Pair>() {
         let Ok(pair) = pair else {
@@ -108,20 +107,10 @@ pub fn search(part: Part<'_>, key: &[u8]) -> Found
     Found::Nothing
 }
 
-/// The place of a key's value among the entries of a part.
-pub fn find(part: Part<'_>, key: &[u8]) -> Found
-    ensures found_inside { FoundInside part.entry.bytes.now result }
-    ensures value { (es : Entries) → Holds part.entry.bytes.now part.entry.from part.entry.to es → Finds part.entry.bytes.now (get key.now es) result }
-{
-    search(part, key)
-}
-
 /// Whether a key is one of the entries of a part.
+#[tactic(auto, using(crate::proofs::Walking::keys))]
 pub fn has_key(part: Part<'_>, key: &[u8]) -> bool
     ensures { (es : Entries) → take (part.entry.to - part.entry.from) (drop part.entry.from part.entry.bytes.now) ≡ encode es → result ≡ has_key key.now es }
 {
-    match search(part, key) {
-        Found::At(_) => true,
-        Found::Nothing => false,
-    }
+    matches!(find(part, key), Found::At(_))
 }

@@ -66,7 +66,37 @@ pub listed_start : (s : List ℕ) (start levels n : ℕ) (old : Writer) → star
 unfolding encode flow_items
 listed_start s start levels n old w = record { got = end; same = refl; appends = appends_none old; within = w }
 
-module _ (s : List ℕ) (start levels n : ℕ) (old out : Writer) (i : ℕ) (v : Listed s start levels n old out i) where
+-- the same at a place where no separator stands
+pub record ListedAt (s : List ℕ) (start levels n : ℕ) (old now : Writer) (i : ℕ) : Type 0 where
+  pub listed : Listed s start levels n old now i
+  pub other : i < length s → separates (ltb old.used now.used) (get_or s i 0) ≡ false
+
+-- separators are skipped
+pub listed_at : {s : List ℕ} {start levels n : ℕ} {old out : Writer} {i : ℕ} (v : Listed s start levels n old out i) {before p j : ℕ} → before ≡ old.used → p ≡ out.used
+    → drop j s ≡ skip_separators (ltb before p) (drop i s) → j ≤ length s → (j < length s → separates (ltb before p) (get_or s j 0) ≡ false) → ListedAt s start levels n old out j
+unfolding first
+listed_at {s} {start} {levels} {n} {old} {out} {i} v {before} {p} {j} f u e w o =
+    let g : not (no_item v.got) ≡ ltb old.used out.used = some-items v.got old.used out.used v.appends.used in
+    let k : drop j s ≡ skip_separators (not (no_item v.got)) (drop i s) = (rw (f, u) at e) ∙ ap (λ (b : Bool). skip_separators b (drop i s)) (sym g) in
+    record {
+      listed = record {
+        got = v.got;
+        same = v.same ∙ items-skip (cap_of old) n (value (cap_of old) n levels true) (value-takes (cap_of old) n levels true) (suc (length (drop i s))) v.got out.used (drop i s) (omega (arith, first-most v.got))
+            ∙ ap (λ (l : List ℕ). items (cap_of old) n (value (cap_of old) n levels true) (suc (length l)) v.got out.used l) (sym k);
+        appends = v.appends;
+        within = w;
+      };
+      other = λ h. rw (f, u) at (o h);
+    }
+  where
+    first-most : (ys : Items) → first (cap_of old) n ys ≤ 1
+    first-most end = omega arith
+    first-most (y ▸ ys) = omega arith
+
+module _ {s : List ℕ} {start levels n : ℕ} {old out : Writer} {i : ℕ} (t : ListedAt s start levels n old out i) where
+  abbrev v : Listed s start levels n old out i
+  v = t.listed
+
   abbrev cap : ℕ
   cap = cap_of old
 
@@ -79,31 +109,13 @@ module _ (s : List ℕ) (start levels n : ℕ) (old out : Writer) (i : ℕ) (v :
   abbrev whole : Answer (Got Items)
   whole = flow_items cap n levels old.used (drop start s)
 
-  -- separators are skipped
-  pub listed_at : (j : ℕ) → drop j s ≡ skip_separators (ltb old.used p) (drop i s) → j ≤ length s → Listed s start levels n old out j
-  unfolding first
-  listed_at j e w =
-      let g : not (no_item v.got) ≡ ltb old.used p = some-items v.got old.used p v.appends.used in
-      let k : drop j s ≡ skip_separators (not (no_item v.got)) (drop i s) = e ∙ ap (λ (b : Bool). skip_separators b (drop i s)) (sym g) in
-      record {
-        got = v.got;
-        same = v.same ∙ items-skip cap n inside (value-takes cap n levels true) (suc (length (drop i s))) v.got p (drop i s) (omega (arith, first-most v.got))
-            ∙ ap (λ (l : List ℕ). items cap n inside (suc (length l)) v.got p l) (sym k);
-        appends = v.appends;
-        within = w;
-      }
-    where
-      first-most : (ys : Items) → first cap n ys ≤ 1
-      first-most end = omega arith
-      first-most (y ▸ ys) = omega arith
-
   pub list_open : length s ≤ i → Refuses whole old out (FlowSequenceOpen n)
   unfolding stop
   list_open h = record { is = v.same ∙ rw (drop_of_length-le s {i = i} h) (items-none cap n inside 1 v.got p); keeps = keeps_appended v.appends }
 
-  module _ (h : i < length s) (sep : separates (ltb old.used p) (get_or s i 0) ≡ false) where
+  module _ (h : i < length s) where
     sep-got : separates (not (no_item v.got)) (get_or s i 0) ≡ false
-    sep-got = ap (λ (b : Bool). separates b (get_or s i 0)) (some-items v.got old.used p v.appends.used) ∙ sep
+    sep-got = ap (λ (b : Bool). separates b (get_or s i 0)) (some-items v.got old.used p v.appends.used) ∙ t.other h
 
     here : items cap n inside (suc (length (drop i s))) v.got p (drop i s) ≡ items cap n inside (suc (suc (length (drop (i + 1) s)))) v.got p (get_or s i 0 ∷ drop (i + 1) s)
     here = ap (λ (l : List ℕ). items cap n inside (suc (length l)) v.got p l) (next s i h)
@@ -267,7 +279,32 @@ pub mapped_start : (s : List ℕ) (start levels n : ℕ) (old : Writer) → star
 unfolding encode flow_entries key_twice
 mapped_start s start levels n old w = record { got = done; same = refl; appends = appends_none old; within = w }
 
-module _ (s : List ℕ) (start levels n : ℕ) (old out : Writer) (i : ℕ) (v : Mapped s start levels n old out i) where
+-- the same at a place where no separator stands
+pub record MappedAt (s : List ℕ) (start levels n : ℕ) (old now : Writer) (i : ℕ) : Type 0 where
+  pub mapped : Mapped s start levels n old now i
+  pub other : i < length s → separates (ltb old.used now.used) (get_or s i 0) ≡ false
+
+pub mapped_at : {s : List ℕ} {start levels n : ℕ} {old out : Writer} {i : ℕ} (v : Mapped s start levels n old out i) {before p j : ℕ} → before ≡ old.used → p ≡ out.used
+    → drop j s ≡ skip_separators (ltb before p) (drop i s) → j ≤ length s → (j < length s → separates (ltb before p) (get_or s j 0) ≡ false) → MappedAt s start levels n old out j
+mapped_at {s} {start} {levels} {n} {old} {out} {i} v {before} {p} {j} f u e w o =
+    let g : not (no_entry v.got) ≡ ltb old.used out.used = some-entries v.got old.used out.used v.appends.used in
+    let k : drop j s ≡ skip_separators (not (no_entry v.got)) (drop i s) = (rw (f, u) at e) ∙ ap (λ (b : Bool). skip_separators b (drop i s)) (sym g) in
+    record {
+      mapped = record {
+        got = v.got;
+        same = v.same ∙ ap (λ (a : Answer (Got Entries)). if key_twice v.got then refused 18 n 0 else a)
+            (entries-skip (cap_of old) n (value (cap_of old) n levels true) (value-takes (cap_of old) n levels true) (suc (length (drop i s))) v.got out.used (drop i s) (omega arith)
+            ∙ ap (λ (l : List ℕ). entries (cap_of old) n (value (cap_of old) n levels true) (suc (length l)) v.got out.used l) (sym k));
+        appends = v.appends;
+        within = w;
+      };
+      other = λ h. rw (f, u) at (o h);
+    }
+
+module _ {s : List ℕ} {start levels n : ℕ} {old out : Writer} {i : ℕ} (t : MappedAt s start levels n old out i) where
+  abbrev mv : Mapped s start levels n old out i
+  mv = t.mapped
+
   abbrev mcap : ℕ
   mcap = cap_of old
 
@@ -283,64 +320,52 @@ module _ (s : List ℕ) (start levels n : ℕ) (old out : Writer) (i : ℕ) (v :
   mtakes : Takes mcap n minside
   mtakes = value-takes mcap n levels true
 
-  judged : (x : Answer (Got Entries)) → entries mcap n minside (suc (length (drop i s))) v.got mp (drop i s) ≡ x
-      → flow_entries mcap n levels old.used (drop start s) ≡ (if key_twice v.got then refused 18 n 0 else x)
-  judged x e = v.same ∙ ap (λ (a : Answer (Got Entries)). if key_twice v.got then refused 18 n 0 else a) e
+  judged : (x : Answer (Got Entries)) → entries mcap n minside (suc (length (drop i s))) mv.got mp (drop i s) ≡ x
+      → flow_entries mcap n levels old.used (drop start s) ≡ (if key_twice mv.got then refused 18 n 0 else x)
+  judged x e = mv.same ∙ ap (λ (a : Answer (Got Entries)). if key_twice mv.got then refused 18 n 0 else a) e
 
-  pub mapped_at : (j : ℕ) → drop j s ≡ skip_separators (ltb old.used mp) (drop i s) → j ≤ length s → Mapped s start levels n old out j
-  mapped_at j e w =
-      let g : not (no_entry v.got) ≡ ltb old.used mp = some-entries v.got old.used mp v.appends.used in
-      let k : drop j s ≡ skip_separators (not (no_entry v.got)) (drop i s) = e ∙ ap (λ (b : Bool). skip_separators b (drop i s)) (sym g) in
-      record {
-        got = v.got;
-        same = judged _ (entries-skip mcap n minside mtakes (suc (length (drop i s))) v.got mp (drop i s) (omega arith)
-            ∙ ap (λ (l : List ℕ). entries mcap n minside (suc (length l)) v.got mp l) (sym k));
-        appends = v.appends;
-        within = w;
-      }
-
-  ends-here : (e : Result ℕ Refusal) (new : Writer) → entries mcap n minside (suc (length (drop i s))) v.got mp (drop i s) ≡ end_of s mp v.got e
-      → Keeps out new → new.used ≡ mp → ClosedBy s old new v.got e → Told e new
+  ends-here : (e : Result ℕ Refusal) (new : Writer) → entries mcap n minside (suc (length (drop i s))) mv.got mp (drop i s) ≡ end_of s mp mv.got e
+      → Keeps out new → new.used ≡ mp → ClosedBy s old new mv.got e → Told e new
   ends-here e new is k u c = record {
-    got = v.got;
-    is = judged _ is ∙ ap (λ (x : ℕ). if key_twice v.got then refused 18 n 0 else end_of s x v.got e) (sym u);
-    keeps = keeps_more (keeps_appended v.appends) k;
-    lies = rw u (lies-kept out.out.now new.out.now old.used mp v.got k.kept (omega (arith, new.within))
-        (subst (λ (l : List ℕ). Lies l old.used mp v.got) (sym v.appends.out) (lies-stored old.out.now old.used mp v.got v.appends.used (omega (arith, out.within, len_appended v.appends)))));
+    got = mv.got;
+    is = judged _ is ∙ ap (λ (x : ℕ). if key_twice mv.got then refused 18 n 0 else end_of s x mv.got e) (sym u);
+    keeps = keeps_more (keeps_appended mv.appends) k;
+    lies = rw u (lies-kept out.out.now new.out.now old.used mp mv.got k.kept (omega (arith, new.within))
+        (subst (λ (l : List ℕ). Lies l old.used mp mv.got) (sym mv.appends.out) (lies-stored old.out.now old.used mp mv.got mv.appends.used (omega (arith, out.within, len_appended mv.appends)))));
     closed = c;
   }
 
   pub map-open : length s ≤ i → Told (Err (FlowMappingOpen n)) out
   unfolding stop
-  map-open h = ends-here (Err (FlowMappingOpen n)) out (rw (drop_of_length-le s {i = i} h, entries_none mcap n minside 1 v.got mp)) (keeps_same refl) refl tt
+  map-open h = ends-here (Err (FlowMappingOpen n)) out (rw (drop_of_length-le s {i = i} h, entries_none mcap n minside 1 mv.got mp)) (keeps_same refl) refl tt
 
-  module _ (h : i < length s) (sep : separates (ltb old.used mp) (get_or s i 0) ≡ false) where
-    msep : separates (not (no_entry v.got)) (get_or s i 0) ≡ false
-    msep = ap (λ (b : Bool). separates b (get_or s i 0)) (some-entries v.got old.used mp v.appends.used) ∙ sep
+  module _ (h : i < length s) where
+    msep : separates (not (no_entry mv.got)) (get_or s i 0) ≡ false
+    msep = ap (λ (b : Bool). separates b (get_or s i 0)) (some-entries mv.got old.used mp mv.appends.used) ∙ t.other h
 
-    mhere : entries mcap n minside (suc (length (drop i s))) v.got mp (drop i s) ≡ entries mcap n minside (suc (suc (length (drop (i + 1) s)))) v.got mp (get_or s i 0 ∷ drop (i + 1) s)
-    mhere = ap (λ (l : List ℕ). entries mcap n minside (suc (length l)) v.got mp l) (next s i h)
+    mhere : entries mcap n minside (suc (length (drop i s))) mv.got mp (drop i s) ≡ entries mcap n minside (suc (suc (length (drop (i + 1) s)))) mv.got mp (get_or s i 0 ∷ drop (i + 1) s)
+    mhere = ap (λ (l : List ℕ). entries mcap n minside (suc (length l)) mv.got mp l) (next s i h)
 
     pub map-close : get_or s i 0 ≡ ch "}" → Told (Ok (i + 1)) out
     map-close e = ends-here (Ok (i + 1)) out
-        (mhere ∙ entries-close mcap n minside mtakes (suc (length (drop (i + 1) s))) mp (get_or s i 0) (drop (i + 1) s) v.got msep (eq-eqb (get_or s i 0) (ch "}") e))
-        (keeps_same refl) refl (omega arith, v.appends)
+        (mhere ∙ entries-close mcap n minside mtakes (suc (length (drop (i + 1) s))) mp (get_or s i 0) (drop (i + 1) s) mv.got msep (eq-eqb (get_or s i 0) (ch "}") e))
+        (keeps_same refl) refl (omega arith, mv.appends)
 
     module _ (c : get_or s i 0 ≡ ch "}" → ⊥) where
-      one_entry : entries mcap n minside (suc (length (drop i s))) v.got mp (drop i s)
+      one_entry : entries mcap n minside (suc (length (drop i s))) mv.got mp (drop i s)
           ≡ (entry_of mcap n minside mp (drop i s)
-          >>= λ x. fresh mcap n x.0.0 v.got >> entries mcap n minside (suc (length (drop (i + 1) s))) (add v.got x.0.0 x.0.1) x.1 x.2)
+          >>= λ x. fresh mcap n x.0.0 mv.got >> entries mcap n minside (suc (length (drop (i + 1) s))) (add mv.got x.0.0 x.0.1) x.1 x.2)
       one_entry =
           mhere
-          ∙ entries-entry mcap n minside mtakes (suc (length (drop (i + 1) s))) mp (get_or s i 0) (drop (i + 1) s) v.got msep (ne_eqb (get_or s i 0) (ch "}") c)
+          ∙ entries-entry mcap n minside mtakes (suc (length (drop (i + 1) s))) mp (get_or s i 0) (drop (i + 1) s) mv.got msep (ne_eqb (get_or s i 0) (ch "}") c)
           ∙ ap (λ (l : List ℕ). entry_of mcap n minside mp l
-          >>= λ x. fresh mcap n x.0.0 v.got >> entries mcap n minside (suc (length (drop (i + 1) s))) (add v.got x.0.0 x.0.1) x.1 x.2) (sym (next s i h))
+          >>= λ x. fresh mcap n x.0.0 mv.got >> entries mcap n minside (suc (length (drop (i + 1) s))) (add mv.got x.0.0 x.0.1) x.1 x.2) (sym (next s i h))
 
       abbrev Entry : Answer (Got (List ℕ × Yaml))
       Entry = entry_of (cap_of out) n (value (cap_of out) n levels true) mp (drop i s)
 
       entry-long : Entry ≡ entry_of mcap n minside mp (drop i s)
-      entry-long = ap (λ (k : ℕ). entry_of k n (value k n levels true) mp (drop i s)) (len_appended v.appends)
+      entry-long = ap (λ (k : ℕ). entry_of k n (value k n levels true) mp (drop i s)) (len_appended mv.appends)
 
       -- an entry that is refused is taken back
       pub map_stops : (mid new : Writer) (z : Refusal) → Refuses Entry out mid z → CutsBack mid new mp → Told (Err z) new
@@ -354,14 +379,14 @@ module _ (s : List ℕ) (start levels n : ℕ) (old out : Writer) (i : ℕ) (v :
           let bn : length (drop (i + 1) s) ≡ length s - (i + 1) = length-drop (i + 1) s in
           let k : List ℕ = w.got.0 in
           let y : Yaml = w.got.1 in
-          let es : Entries = add v.got k y in
+          let es : Entries = add mv.got k y in
           let f : j ≤ length s = w.forward in
           record {
             got = es;
-            same = judged _ (one_entry ∙ rw (← entry-long, w.is)) ∙ judged-on mcap n v.got k y _
+            same = judged _ (one_entry ∙ rw (← entry-long, w.is)) ∙ judged-on mcap n mv.got k y _
                 ∙ ap (λ (a : Answer (Got Entries)). if key_twice es then refused 18 n 0 else a)
                 (entries-enough mcap n minside mtakes (suc (length (drop (i + 1) s))) (suc (length (drop j s))) es new.used (drop j s) (omega arith) (omega arith));
-            appends = rw (add-bytes v.got k y) (appends_more v.appends w.appends);
+            appends = rw (add-bytes mv.got k y) (appends_more mv.appends w.appends);
             within = w.forward;
           }
 
@@ -381,3 +406,9 @@ module _ (s : List ℕ) (answer : Answer (Got Entries)) (n : ℕ) (old out : Wri
       go : (e : Result ℕ Refusal) → ClosedBy s old out v.got e → answer ≡ end_of s out.used v.got e → Reads {A = Entries} encode answer s old out e
       go (Ok j) c q = record { got = v.got; is = q; appends = c.1; forward = c.0 }
       go (Err z) c q = record { is = q; keeps = v.keeps }
+
+pub ruleset lists = (listed_start, listed_at, list_open, list_close, list-stuck, list_stops, list_less, listed_next)
+
+pub ruleset maps = (mapped_start, mapped_at, map-open, map-close, map_stops, mapped_next)
+
+pub ruleset mappings = (mapping_twice, mapping_done, lies_in_front)

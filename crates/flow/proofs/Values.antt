@@ -11,7 +11,7 @@ use Rattle.item.specs.Tree.{Yaml, null, bool, int, str, seq, dict, Items, Entrie
 use Rattle.item.specs.Encode.{head, item, encode}
 use Rattle.writer.specs.declared.Writer.{Writer}
 use Rattle.writer.specs.Writing.{cap_of, Appends, Begins, Fills}
-use Rattle.writer.proofs.Laws.{appends_more, filled, len_appended, keeps_appended, keeps_begun, keeps_more}
+use Rattle.writer.proofs.Laws.{appends_more, filled, len_appended, keeps_appended, keeps_begun, keeps_more, keeps_same}
 use Rattle.utf8.specs.Places.{First}
 use Rattle.utf8.proofs.Places.{found_or, kept_to}
 use Rattle.number.specs.Integers.{int_text}
@@ -375,3 +375,13 @@ module _ (s : List ℕ) (n levels : ℕ) (role : Role) (old new : Writer) where
     pub part_more : c < length s → Refuses all old new (TextAfterValue n)
     unfolding flow ◌>>=◌ ◌>>◌ ensure empty
     part_more h = record { is = rw (w.is, ← sc, next s c h); keeps = keeps_appended w.appends }
+
+pub ruleset entry_values = (reads_as, value_null, value_there, value_last)
+
+pub ruleset entries = (entry_refused, entry_unnamed, entry_ends, entry_colonless, entry_stops, entry_reads)
+
+pub ruleset collections = (value-deep, value-full, mapping_stops, mapping_wrote, sequence_stops, sequence_wrote, keeps_same)
+
+pub ruleset values = (reads_as, value-end, value-double, value-single, value-anchor, value-plain, keeps_same)
+
+pub ruleset parts = (part_refused, part_whole, part_more)

@@ -1,5 +1,6 @@
 // One line's value: a scalar, a flow sequence or a flow mapping, written as it is read. A reader is lent the part of a line that it reads, as
-// `s`, and the writer that it writes into; what it wrote before a refusal is kept.
+// `s`, and the writer that it writes into; what it wrote before a refusal is kept. Part and place are two parameters, and no struct with the
+// bound of 65,535 bytes in it: the readers are the core that a `Cursor`, which has both, calls by a few thin functions.
 #![tactic(auto)]
 
 ghost use Rattle.std.specs.Prelude.{◌≡◌, ◌⊎◌, Bool, true, false, ◌+◌, ◌≤◌, ◌<◌, ◌^◌, length, drop, get_or};
@@ -23,7 +24,7 @@ use writer::Writer;
 /// The place in a line that a reader has come to: the line's bytes, how many of them are read, and how many more collections may be
 /// opened there. It is a value that is copied and never lent: a cursor that has gone on is another one, and the line outlives both (`'a`).
 // Its functions are few, have no branch and no loop, and hand slice and numbers on. Other crates call `flow`, whose parameters are plain.
-#[derive(Clone, Copy)]
+#[derive(Clone, Copy, Debug)]
 pub struct Cursor<'a> {
     pub line: &'a [u8],
     pub at: usize,
@@ -46,7 +47,8 @@ fn skip_spaces(s: &[u8], from: usize) -> usize
     first_place(from, s.len(), |i| s[i] != b' ')
 }
 
-// Whether a byte separates the items of a collection: a space, and once there is an item, a comma.
+// Whether a byte separates the items of a collection: a space, and once there is an item, a comma. `got` is a bool, as the definitions ask
+// it: what counts is that there is an item, and no reader has more to tell of it.
 #[tactic(auto, unfolding(crate::specs::Contract::separates))]
 fn separates(b: u8, got: bool) -> bool
     ensures { result ≡ agree.separates got b }
@@ -74,6 +76,7 @@ fn stuck(s: &[u8], i: usize) -> bool
 }
 
 // The items behind a `[`, and the place behind the `]` that closes them. A `loop`, here and in `entries`: it goes on where a value ends.
+#[tactic(auto, using(crate::proofs::Invariants::lists))]
 #[cycle(reading)]
 fn sequence(s: &[u8], start: usize, site: Site, writer: &mut Writer<'_>) -> Result<usize, Refusal>
     requires in_range { start ≤ length s.now }
@@ -109,6 +112,7 @@ fn leaves_out(b: u8) -> bool
 }
 
 // The value of an entry, null where it is left out.
+#[tactic(auto, using(crate::proofs::Values::entry_values))]
 #[cycle(reading)]
 fn entry_value(s: &[u8], i: usize, site: Site, writer: &mut Writer<'_>) -> Result<Parsed, Refusal>
     requires in_range { i ≤ length s.now }
@@ -124,6 +128,7 @@ fn entry_value(s: &[u8], i: usize, site: Site, writer: &mut Writer<'_>) -> Resul
 }
 
 // A key, a colon and a value, and the place behind them.
+#[tactic(auto, using(crate::proofs::Values::entries))]
 #[cycle(reading)]
 fn entry(s: &[u8], i: usize, site: Site, writer: &mut Writer<'_>) -> Result<usize, Refusal>
     requires in_range { i ≤ length s.now }
@@ -145,6 +150,7 @@ fn entry(s: &[u8], i: usize, site: Site, writer: &mut Writer<'_>) -> Result<usiz
 
 // The entries behind a `{`, and the place behind the `}` that closes them. Their keys are not compared. Where an entry is refused, the writer
 // is cut back to those before it.
+#[tactic(auto, using(crate::proofs::Invariants::maps))]
 #[cycle(reading)]
 fn entries(s: &[u8], start: usize, site: Site, writer: &mut Writer<'_>) -> Result<usize, Refusal>
     requires in_range { start ≤ length s.now }
@@ -175,6 +181,7 @@ fn entries(s: &[u8], start: usize, site: Site, writer: &mut Writer<'_>) -> Resul
 
 // The same, once their keys are compared. Whether one stands twice is judged once, of all the entries that were read: they have one line, and
 // come before what refused the next.
+#[tactic(auto, using(crate::proofs::Invariants::mappings))]
 #[cycle(reading)]
 fn mapping(s: &[u8], start: usize, site: Site, writer: &mut Writer<'_>) -> Result<usize, Refusal>
     requires in_range { start ≤ length s.now }
@@ -191,6 +198,7 @@ fn mapping(s: &[u8], start: usize, site: Site, writer: &mut Writer<'_>) -> Resul
 }
 
 // A collection that opens at `i`.
+#[tactic(auto, using(crate::proofs::Values::collections))]
 #[cycle(reading)]
 fn collection(s: &[u8], i: usize, site: Site, writer: &mut Writer<'_>) -> Result<Parsed, Refusal>
     requires in_range { i < length s.now }
@@ -218,6 +226,7 @@ fn collection(s: &[u8], i: usize, site: Site, writer: &mut Writer<'_>) -> Result
     Ok(Parsed { next, key: false })
 }
 
+#[tactic(auto, using(crate::proofs::Values::values))]
 #[cycle(reading)]
 fn value(
     s: &[u8],
@@ -295,6 +304,7 @@ impl<'a> Cursor<'a> {
 }
 
 /// A part of a line that is one value, and whether the value can be a key. What stands behind the value but for spaces is refused last.
+#[tactic(auto, using(crate::proofs::Values::parts))]
 pub fn flow(
     s: &[u8],
     levels: usize,

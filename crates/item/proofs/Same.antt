@@ -38,3 +38,5 @@ module _ (a b : List ℕ) (i : ℕ) where
 
   pub ends-all : i ≤ 0 → drop i a ≡ drop i b → same a b ≡ true
   ends-all z e = let h : i ≡ 0 = omega arith in subst (λ (n : ℕ). drop n a ≡ drop n b → same a b ≡ true) (sym h) (λ q. rw q (same_refl b)) e
+
+pub ruleset ends = (same-ne, ends_more, ends-all)

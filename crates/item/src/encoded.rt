@@ -21,6 +21,7 @@ pub struct Part<'a> {
 }
 
 // Of a slice that is passed it is known that its numbers are bytes, and of one in a struct it is not.
+#[tactic(auto, using(crate::proofs::Exact::bytes_of))]
 #[inline(always)]
 fn lent(bytes: &[u8]) -> &[u8]
     ensures same { result ≡ bytes.entry }
@@ -30,7 +31,7 @@ fn lent(bytes: &[u8]) -> &[u8]
 }
 
 impl<'a> Encoded<'a> {
-    /// All of them.
+    /// The bytes themselves.
     #[inline(always)]
     pub fn all(self) -> &'a [u8]
         ensures same { result ≡ self.entry.bytes }

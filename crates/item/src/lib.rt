@@ -1,7 +1,9 @@
-// Items, the bytes that trees and records are made of: content length (4 bytes), kind (2 bytes), both little-endian, then the content.
+// Items, the bytes that trees and records are made of: content length (4 bytes), kind (2 bytes), both little-endian, then the content. They
+// are stored in `out` from `at` on, since the writers, which keep both, stand above.
 #![tactic(auto)]
 
-ghost use Rattle.std.specs.Prelude.{◌≡◌, ◌+◌, ◌≤◌, ◌<◌, ◌^◌, IfOk, length, take, drop};
+ghost use Rattle.std.specs.Prelude.{◌≡◌, ◌+◌, ◌≤◌, ◌<◌, ◌^◌, IfOk, eqb, length, take, drop};
+ghost use Rattle.std.specs.List.{list_any};
 ghost use Rattle.std.proofs.lemmas.List.Edits.{sets};
 ghost use Rattle.refusal.specs.Base.{same};
 ghost use Rattle.item.specs.Tree.{null, bool, int, str};
@@ -16,6 +18,9 @@ pub use walk::{Items, Placed, Walk};
 
 /// Of a lent output at most so many bytes count, and a record has at most so many.
 pub const LIMIT: usize = 1048576;
+
+/// How many bytes an item's header has.
+pub const HEADER: usize = 6;
 
 /// The kinds of items: of trees, and those that only a record has.
 #[derive(Clone, Copy, Debug, PartialEq, Eq)]
@@ -61,12 +66,24 @@ impl TryFrom<usize> for Kind {
     }
 }
 
-/// An item, by its places: its content is the part from `from` to `to`. Bytes from outside may have any kind.
+/// An item as its header tells it: its kind, and the places between which its content stands. Bytes from outside may have any kind.
 #[derive(Clone, Copy, Debug, PartialEq, Eq)]
 pub struct Item {
     pub kind: usize,
     pub from: usize,
     pub to: usize,
+}
+
+impl Item {
+    ghost use Rattle.item.specs.Kinds.{number_of};
+
+    /// Whether it has this kind.
+    #[inline]
+    pub fn is(self, kind: Kind) -> bool
+        ensures { result ≡ eqb self.kind (number_of kind) }
+    {
+        self.kind == kind as usize
+    }
 }
 
 /// Why no item stands at a place.
@@ -79,6 +96,7 @@ pub enum Broken {
 }
 
 /// An integer, by its sign and its magnitude.
+// No `i64`: any magnitude is encoded, by its lowest 64 bits, and texts are made of any.
 #[derive(Clone, Copy, Debug, PartialEq, Eq)]
 pub struct Integer {
     pub negative: bool,
@@ -99,10 +117,11 @@ pub fn put_header(out: &mut [u8], at: usize, kind: usize, size: usize)
     ensures { out.new ≡ sets out.old at (head kind size) }
 {
     out[at..at + 4].copy_from_slice(&(size as u32).to_le_bytes());
-    out[at + 4..at + 6].copy_from_slice(&(kind as u16).to_le_bytes());
+    out[at + 4..at + HEADER].copy_from_slice(&(kind as u16).to_le_bytes());
 }
 
 /// Six bytes.
+#[tactic(auto, using(crate::proofs::Laws::null_stored))]
 pub fn put_null(out: &mut [u8], at: usize)
     requires { at + 6 ≤ length out.old }
     ensures { out.new ≡ sets out.old at (encode null) }
@@ -111,16 +130,17 @@ pub fn put_null(out: &mut [u8], at: usize)
 }
 
 /// Seven bytes.
+#[tactic(auto, using(crate::proofs::Laws::bool_stored))]
 pub fn put_bool(out: &mut [u8], at: usize, value: bool)
     requires { at + 7 ≤ length out.old }
     ensures { out.new ≡ sets out.old at (encode (bool value)) }
 {
     put_header(out, at, Kind::Bool as usize, 1);
-    out[at + 6] = value as u8;
+    out[at + HEADER] = u8::from(value);
 }
 
 // The bits of an integer of 64 bits.
-#[tactic(auto, unfolding(crate::specs::Encode::twos, crate::specs::Encode::signed))]
+#[tactic(auto, using(crate::proofs::Laws::negated), unfolding(crate::specs::Encode::twos, crate::specs::Encode::signed))]
 fn twos_complement(n: Integer) -> u64
     ensures { result ≡ twos (signed n.negative n.magnitude) }
 {
@@ -137,7 +157,7 @@ pub fn put_int(out: &mut [u8], at: usize, n: Integer)
     ensures { out.new ≡ sets out.old at (encode (int (signed n.negative n.magnitude))) }
 {
     put_header(out, at, Kind::Int as usize, 8);
-    out[at + 6..at + 14].copy_from_slice(&twos_complement(n).to_le_bytes());
+    out[at + HEADER..at + HEADER + 8].copy_from_slice(&twos_complement(n).to_le_bytes());
 }
 
 /// All bytes of `s`, stored from `at` on.
@@ -158,7 +178,7 @@ pub fn put_string(out: &mut [u8], at: usize, s: &[u8])
     ensures { out.new ≡ sets out.old at (encode (str s.now)) }
 {
     put_header(out, at, Kind::Str as usize, s.len());
-    copy(out, at + 6, s);
+    copy(out, at + HEADER, s);
 }
 
 #[tactic(auto, using(crate::proofs::HeaderPlaces::four_at))]
@@ -183,10 +203,10 @@ pub fn header_at(s: &[u8], at: usize) -> Result<Item, Broken>
     ensures value { result ≡ header_at s.now at }
     ensures inside { IfOk result (λ item. (item.from ≡ at + 6) × (item.from ≤ item.to) × (item.to ≤ length s.now)) }
 {
-    if s.len() < 6 || s.len() - 6 < at {
+    if s.len() < HEADER || s.len() - HEADER < at {
         return Err(Broken::Cut);
     }
-    let from = at + 6;
+    let from = at + HEADER;
     let size = size_at(s, at);
     if s.len() - from < size {
         return Err(Broken::PastEnd);
@@ -199,7 +219,9 @@ pub fn header_at(s: &[u8], at: usize) -> Result<Item, Broken>
 }
 
 /// Whether parts of one length are the same bytes.
-// From the end, since long keys are mostly alike at their beginnings; a loop, since libraries call no `memcmp`.
+// From the end, since long keys are mostly alike at their beginnings; by index, since libraries call no `memcmp`, and two iterators side by
+// side, from the end, take two thirds more instructions.
+#[tactic(auto, using(crate::proofs::Same::ends))]
 pub fn equal_bytes(a: &[u8], b: &[u8]) -> bool
     requires { length a.now ≡ length b.now }
     ensures { result ≡ same a.now b.now }
@@ -218,4 +240,11 @@ pub fn same_bytes(a: &[u8], b: &[u8]) -> bool
     ensures { result ≡ same a.now b.now }
 {
     a.len() == b.len() && equal_bytes(a, b)
+}
+
+/// Whether bytes are one of some names.
+pub fn one_of(bytes: &[u8], names: &[&[u8]]) -> bool
+    ensures { result ≡ list_any (λ name. same bytes.now name.now) names.now }
+{
+    names.iter().any(|name| same_bytes(bytes, name))
 }

@@ -48,6 +48,7 @@ pub struct Walk<'a, T> {
     of: PhantomData<T>,
 }
 
+/// A walk over items.
 pub type Items<'a> = Walk<'a, Item>;
 
 impl<'a, T> Walk<'a, T> {

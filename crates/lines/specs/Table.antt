@@ -1,14 +1,11 @@
--- Section 1 of document 01, for contracts: the table of rows, and what it means that a line of the scan filled it. Uses Base and
--- Told of `refusal`; Part of `utf8`; Lines of this crate. Assumes nothing.
-use Rattle.std.specs.Prelude.{◌≡◌, ℕ, ◌+◌, ◌-◌, ◌≤◌, List, [], ◌++◌, map, length, take, slice_index_or, Result, Ok, Err}
+-- Section 1 of document 01, for contracts: the table of rows, and the lines that they stand for. Uses Base of `refusal`; Part of `utf8`;
+-- Lines of this crate. Assumes nothing.
+use Rattle.std.specs.Prelude.{ℕ, ◌≤◌, List, [], ◌++◌, map, length, slice_index_or}
 use Rattle.std.specs.List.{All}
 use Rattle.refusal.specs.Base.{Answer, good, ◌>>=◌}
-use Rattle.refusal.specs.Told.{refusal}
-use Rattle.refusal.specs.declared.Refusal.{Refusal}
 use Rattle.utf8.specs.Part.{part}
 use Rattle.lines.specs.declared.Row.{Row}
-use Rattle.lines.specs.declared.LineTaken.{LineTaken}
-use Rattle.lines.specs.Lines.{Line, line, Event, scan, collect, most_lines}
+use Rattle.lines.specs.Lines.{Line, line}
 
 abbrev pub row_of : ℕ → ℕ → ℕ → ℕ → Row
 row_of i s e n = record { indent = i; start = s; end = e; number = n }
@@ -32,25 +29,6 @@ pub record LiesIn (text : List ℕ) (row : Row) : Type 0 where
 abbrev pub AllLieIn : List ℕ → List Row → Type 0
 AllLieIn text rows = All (λ row. LiesIn text row) rows
 
--- ---- one line
-
 -- the lines of an answer behind those that are there
 unfoldable pub behind : List Line → Answer (List Line) → Answer (List Line)
 behind ls a = a >>= λ rest. good (ls ++ rest)
-
--- what is read with `count` rows of the table filled and these events to come
-abbrev pub reading : List ℕ → List Row → ℕ → List Event → Answer (List Line)
-reading text rows count events = behind (table_lines text (take count rows)) (collect (most_lines - count) events)
-
--- some events, taken into the table
-pub record Took (text : List ℕ) (old new : List Row) (count next : ℕ) (before after : List Event) : Type 0 where
-  pub few : next ≤ most_lines
-  pub long : length new ≡ length old
-  pub reads : reading text old count before ≡ reading text new next after
-  pub placed : AllLieIn text (take count old) → AllLieIn text (take next new)
-
--- a line taken into the table: what the scan gives from it on is what it gives behind it
-abbrev pub Takes : List ℕ → List Row → List Row → ℕ → ℕ → (List (List ℕ) → List Event) → Result LineTaken Refusal → Type 0
-Takes text old new count n from (Ok l) =
-    (l.waiting ≤ n) × ((raws : List (List ℕ)) → Took text old new count l.count (from raws) (scan l.literal l.waiting (n + 1) raws))
-Takes text old new count n from (Err e) = (raws : List (List ℕ)) → collect (most_lines - count) (from raws) ≡ refusal e

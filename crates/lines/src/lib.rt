@@ -1,15 +1,16 @@
-// The significant lines of a text, as a table of entries (document 01, section 1).
+// The significant lines of a text, as the rows of a table (document 01, section 1).
 #![tactic(auto)]
 
-ghost use Rattle.std.specs.Prelude.{◌≡◌, false, List, [], ◌∷◌, ◌++◌, ℕ, ◌+◌, ◌*◌, ◌≤◌, ◌<◌, ◌^◌, length, drop, get_or, MatchResult};
+ghost use Rattle.std.specs.Prelude.{◌≡◌, true, false, List, [], ◌∷◌, ◌++◌, ℕ, ◌+◌, ◌*◌, ◌≤◌, ◌<◌, ◌^◌, length, drop, get_or, MatchResult};
 ghost use Rattle.refusal.specs.Told.{refusal};
 ghost use Rattle.utf8.specs.Part.{part};
+ghost use Rattle.utf8.specs.White.{all_white};
 ghost use Rattle.lines.specs.Lines.{indent_of, tabbed, after_plain, place_after, starts_comment, strip_comment, is_marker, opens_literal, significant_lines};
-ghost use Rattle.lines.specs.Lines.{literal_of, Event, blanks_before, scan, most_lines};
+ghost use Rattle.lines.specs.Lines.{literal_of, most_lines};
 ghost use Rattle.lines.specs.Dash as definition;
 ghost use Rattle.lines.specs.Dash.{is_dash};
-ghost use Rattle.lines.specs.Places.{Lacks, until_newline, LineEnds, IsRaw, RawAt, raw_text, normal, body, way_of};
-ghost use Rattle.lines.specs.Table.{row_of, table_lines, line_at, Took, Takes};
+ghost use Rattle.lines.specs.Places.{Lacks, until_newline, LineEnds};
+ghost use Rattle.lines.specs.Table.{row_of, table_lines, line_at};
 ghost use Rattle.lines.specs.Ready.{AreLines, Ready, Filled};
 
 use refusal::Refusal;
@@ -31,21 +32,11 @@ pub enum Place {
 }
 
 /// Whether a literal is open, and under which indentation, in bytes.
-// An enum of its own, whose cases the definition of lines names.
+// An enum of its own: the definition of lines, which is the rule itself, names its cases.
 #[derive(Clone, Copy, Debug, PartialEq, Eq)]
 pub enum Literal {
     Closed,
     Under(usize),
-}
-
-/// A line of the text: its places in it, without the newline and a carriage return before that, and its number from 1. Its
-/// indentation ends at `start`.
-#[derive(Clone, Copy, Debug, PartialEq, Eq)]
-pub struct Raw {
-    pub from: usize,
-    pub start: usize,
-    pub to: usize,
-    pub number: usize,
 }
 
 /// A line in the table: its indentation, the start and the end of its text as places of the whole text, and its number from 1. No text
@@ -68,17 +59,42 @@ impl Row {
     };
 }
 
-/// What is known behind a line: how many rows there are, what is open, and how many blank lines of it wait for one that is not.
-#[derive(Clone, Copy, Debug, PartialEq, Eq)]
-pub struct LineTaken {
-    pub count: usize,
-    pub literal: Literal,
-    pub waiting: usize,
+// A line of the text: its places in it, without the newline and a carriage return before that, and its number from 1. Its indentation ends at
+// `start`.
+#[derive(Clone, Copy)]
+struct RawLine<'a> {
+    text: &'a [u8],
+    from: usize,
+    start: usize,
+    to: usize,
+    number: usize,
+    ghost short: { length text.now ≤ 65535 },
+    ghost starts: { start ≡ from + indent_of (part text.now from to) },
+    ghost low: { start ≤ to },
+    ghost high: { to ≤ length text.now },
+    ghost some: { 0 < number },
+    ghost few: { number ≤ 65535 },
 }
 
-/// How a line is read: normally, or as a blank or a body line of the literal that is open under an indentation.
-#[derive(Clone, Copy, Debug, PartialEq, Eq)]
-pub enum Way {
+// A table that is being filled: its rows, and how many of them are.
+#[derive(Drop)]
+struct Table<'a> {
+    rows: &'a mut [Row; MOST_LINES],
+    count: usize,
+    ghost whole: { length rows.now ≡ most_lines },
+    ghost fits: { count ≤ most_lines },
+}
+
+// What is known behind a line: which literal is open, and how many blank lines of it wait for one that is not.
+#[derive(Clone, Copy)]
+struct LineTaken {
+    literal: Literal,
+    waiting: usize,
+}
+
+// How a line is read: normally, or as a blank or a body line of the literal that is open under an indentation.
+#[derive(Clone, Copy)]
+enum Way {
     Normal,
     Blank(usize),
     Body(usize),
@@ -102,7 +118,8 @@ fn in_eight(text: &[u8], i: usize, b: u8) -> bool
         | (text[i + 7] == b)
 }
 
-// A place up to which a part has no `b`: eight bytes at a time, in nine instructions, where byte by byte takes five for each.
+// A place up to which a part has no `b`: eight bytes at a time, in nine instructions, where byte by byte takes five for each. A `while`, since the
+// place is what is answered: beside `chunks_exact` it would be counted by hand.
 fn skip_eights(text: &[u8], from: usize, to: usize, b: u8) -> usize
     requires { (from ≤ to) × (to ≤ length text.now) }
     ensures { (from ≤ result) × (result ≤ to) × Lacks text.now from result b }
@@ -240,6 +257,7 @@ fn comment_at(text: &[u8], from: usize, to: usize) -> usize
     to
 }
 
+// So few bytes are compared as one number, with no call of `memcmp`.
 #[tactic(auto, using(crate::proofs::Laws::marker_length), unfolding(crate::specs::Lines::is_marker, refusal::specs::Base::same, refusal::specs::Base::bytes))]
 fn is_marker(t: &[u8]) -> bool
     ensures { result ≡ is_marker t.now }
@@ -270,8 +288,7 @@ fn literal_after(t: &[u8], indent: usize) -> Literal
     }
 }
 
-// The row of a line of a text, which is short. It is put together by shifts: stored one by one, its numbers took two instructions less for
-// each row, but each empty line five more.
+// The row of a line of a text, which is short.
 fn make_row(indent: usize, start: usize, end: usize, number: usize) -> Row
     requires { (indent < 2 ^ 16) × (start < 2 ^ 16) × (end < 2 ^ 16) × (number < 2 ^ 16) }
     ensures { result ≡ row_of indent start end number }
@@ -284,147 +301,184 @@ fn make_row(indent: usize, start: usize, end: usize, number: usize) -> Row
     }
 }
 
-// The blank lines that wait before line `number`.
-fn put_blanks(rows: &mut [Row; MOST_LINES], at: usize, waiting: usize, indent: usize, number: usize)
-    requires { (at + waiting ≤ most_lines) × (waiting ≤ number) × (indent < 2 ^ 16)
-        × (number < 2 ^ 16) }
-    ensures { (text : List ℕ) (es : List Event)
-        → Took text rows.old rows.new at (at + waiting) (blanks_before waiting number indent ++ es) es }
-{
-    for i in 0..waiting {
-        rows[at + i] = make_row(indent, 0, 0, number - waiting + i);
+impl<'a> RawLine<'a> {
+    ghost use Rattle.lines.specs.Raw.{raw_text, way_of, RawAt};
+
+    // The line that starts at `at`.
+    fn at(text: &'a [u8], at: usize, newline: usize, number: usize) -> RawLine<'a>
+        requires place { (at < length text.now) × (newline ≡ at + until_newline (drop at text.now)) × (newline ≤ length text.now) }
+        requires short { length text.now ≤ 65535 }
+        requires numbered { (0 < number) × (number ≤ 65535) }
+        ensures { RawAt text.now at newline number result }
+    {
+        let to = line_end(text, at, newline);
+        RawLine {
+            text,
+            from: at,
+            start: indent_end(text, at, to),
+            to,
+            number,
+        }
+    }
+
+    fn indent(self) -> usize
+        ensures value { result ≡ indent_of (raw_text self.entry) }
+        ensures narrow { result ≤ 65535 }
+    {
+        self.start - self.from
+    }
+
+    // Whether it is white space alone.
+    #[tactic(auto, using(crate::proofs::ScanLaws::raw_blank))]
+    fn is_blank(self) -> bool
+        ensures { result ≡ all_white (raw_text self.entry) }
+    {
+        trim_start(self.text, self.start, self.to) == self.to
+    }
+
+    // A tab in its leading white space is refused.
+    #[tactic(auto, using(crate::proofs::ScanLaws::raw_tab))]
+    fn untabbed(self) -> Result<(), Refusal>
+        ensures { MatchResult result (λ _. tabbed (raw_text self.entry) ≡ false)
+            (λ e. (tabbed (raw_text self.entry) ≡ true) × (e ≡ Refusal.TabInIndentation self.entry.number)) }
+    {
+        if tab_leads(self.text, self.start, self.to) {
+            return Err(Refusal::TabInIndentation {
+                line: self.number as u32,
+            });
+        }
+        Ok(())
+    }
+
+    #[tactic(auto, unfolding(crate::specs::Raw::way_of))]
+    fn way(self, literal: Literal) -> Way
+        ensures { result ≡ way_of literal (raw_text self.entry) }
+    {
+        let Literal::Under(under) = literal else {
+            return Way::Normal;
+        };
+        if self.is_blank() {
+            return Way::Blank(under);
+        }
+        if self.indent() > under {
+            return Way::Body(under);
+        }
+        Way::Normal
     }
 }
 
-// A line that is read normally.
-fn normal_line(
-    text: &[u8],
-    raw: Raw,
-    rows: &mut [Row; MOST_LINES],
-    count: usize,
-) -> Result<LineTaken, Refusal>
-    requires { IsRaw text.now raw × (tabbed (raw_text text.now raw) ≡ false)
-        × (count ≤ most_lines) }
-    ensures { Takes text.now rows.old rows.new count raw.number
-        (λ raws. normal raw text.now raws) result }
-{
-    let start = raw.start;
-    let line = raw.number as u32;
-    let end = trim_end(text, start, comment_at(text, start, raw.to));
-    if end == start {
-        return Ok(LineTaken {
-            count,
-            literal: Literal::Closed,
+impl<'a> Table<'a> {
+    // A table of which no row is filled.
+    fn new(rows: &'a mut [Row; MOST_LINES]) -> Table<'a>
+        ensures same_reference { result.rows.ghost_name ≡ rows.entry.ghost_name }
+        ensures kept { result.rows.now ≡ rows.old }
+        ensures empty { result.count ≡ 0 }
+    {
+        Table { rows, count: 0 }
+    }
+}
+
+impl Table<'_> {
+    ghost use Rattle.std.specs.Prelude.{IfOk};
+    ghost use Rattle.lines.specs.Lines.{Event, entry, events_of, literal_after, blanks_before, body_of, scan};
+    ghost use Rattle.lines.specs.Table.{line_of, LiesIn};
+    ghost use Rattle.lines.specs.Raw.{raw_text};
+    ghost use Rattle.lines.specs.Filling.{Takes};
+
+    // The row of one line more.
+    fn push(&mut self, row: Row) -> Result<(), Refusal>
+        ensures { (text : List ℕ) (es : List Event) → LiesIn text row
+            → Takes text self.old self.new (entry (line_of text row) ∷ es) (λ _. es) result }
+    {
+        let is_full = self.count == MOST_LINES;
+        if is_full {
+            return Err(Refusal::TooManyLines {
+                line: u32::from(row.number),
+            });
+        }
+        self.rows[self.count] = row;
+        self.count += 1;
+        Ok(())
+    }
+
+    // The blank lines that wait before line `number`.
+    fn push_blanks(&mut self, waiting: usize, indent: usize, number: usize) -> Result<(), Refusal>
+        requires { (waiting ≤ number) × (indent < 2 ^ 16) × (number < 2 ^ 16) }
+        ensures { (text : List ℕ) (es : List Event)
+            → Takes text self.old self.new (blanks_before waiting number indent ++ es) (λ _. es) result }
+    {
+        for blank in number - waiting..number {
+            self.push(make_row(indent, 0, 0, blank))?;
+        }
+        Ok(())
+    }
+
+    // A line that is read normally, and what is open behind it.
+    fn normal_line(&mut self, line: RawLine<'_>) -> Result<Literal, Refusal>
+        requires { tabbed (raw_text line) ≡ false }
+        ensures taken { (es : List Event)
+            → Takes line.entry.text.now self.old self.new (events_of line.entry.number (raw_text line.entry) ++ es) (λ _. es) result }
+        ensures open { IfOk result (λ literal. literal ≡ literal_after (raw_text line.entry)) }
+    {
+        let text = line.text;
+        let start = line.start;
+        let end = trim_end(text, start, comment_at(text, start, line.to));
+        if end == start {
+            return Ok(Literal::Closed);
+        }
+        let significant = &text[start..end];
+        if is_marker(significant) {
+            return Err(Refusal::DocumentMarker {
+                line: line.number as u32,
+            });
+        }
+        let indent = line.indent();
+        self.push(make_row(indent, start, end, line.number))?;
+        Ok(literal_after(significant, indent))
+    }
+
+    // A body line of the literal that is open, behind the blank lines that wait.
+    fn body_line(&mut self, line: RawLine<'_>, waiting: usize) -> Result<(), Refusal>
+        requires untabbed { tabbed (raw_text line) ≡ false }
+        requires waits { waiting < line.number }
+        ensures { (es : List Event)
+            → Takes line.entry.text.now self.old self.new (body_of waiting line.entry.number (raw_text line.entry) ++ es) (λ _. es) result }
+    {
+        let indent = line.indent();
+        self.push_blanks(waiting, indent, line.number)?;
+        let end = trim_end(line.text, line.start, line.to);
+        self.push(make_row(indent, line.start, end, line.number))
+    }
+
+    // A tab in its leading white space stops any line but a blank one of a literal. It is asked for here once: asked for in the two functions
+    // above, where it would need no clause of theirs, it took 19 instructions more for each line, since what is called twice is not put in line.
+    fn read_line(&mut self, line: RawLine<'_>, before: LineTaken) -> Result<LineTaken, Refusal>
+        requires { before.waiting < line.number }
+        ensures taken { (raws : List (List ℕ))
+            → Takes line.entry.text.now self.old self.new (scan before.literal before.waiting line.entry.number (raw_text line.entry ∷ raws))
+            (λ l. scan l.literal l.waiting (line.entry.number + 1) raws) result }
+        ensures waits { IfOk result (λ l. l.waiting ≤ line.entry.number) }
+    {
+        let way = line.way(before.literal);
+        if let Way::Blank(under) = way {
+            return Ok(LineTaken {
+                literal: Literal::Under(under),
+                waiting: before.waiting + 1,
+            });
+        }
+        line.untabbed()?;
+        if let Way::Body(under) = way {
+            self.body_line(line, before.waiting)?;
+            return Ok(LineTaken {
+                literal: Literal::Under(under),
+                waiting: 0,
+            });
+        }
+        let literal = self.normal_line(line)?;
+        Ok(LineTaken {
+            literal,
             waiting: 0,
-        });
-    }
-    let significant = &text[start..end];
-    if is_marker(significant) {
-        return Err(Refusal::DocumentMarker { line });
-    }
-    let is_full = count == MOST_LINES;
-    if is_full {
-        return Err(Refusal::TooManyLines { line });
-    }
-    let indent = start - raw.from;
-    rows[count] = make_row(indent, start, end, raw.number);
-    Ok(LineTaken {
-        count: count + 1,
-        literal: literal_after(significant, indent),
-        waiting: 0,
-    })
-}
-
-// A body line of the literal that is open under the indentation `under`.
-fn body_line(
-    text: &[u8],
-    raw: Raw,
-    under: usize,
-    waiting: usize,
-    rows: &mut [Row; MOST_LINES],
-    count: usize,
-) -> Result<LineTaken, Refusal>
-    requires { IsRaw text.now raw × (tabbed (raw_text text.now raw) ≡ false) × (count ≤ most_lines)
-        × (waiting < raw.number) }
-    ensures { Takes text.now rows.old rows.new count raw.number
-        (λ raws. body raw under waiting text.now raws) result }
-{
-    let start = raw.start;
-    let number = raw.number;
-    let room = MOST_LINES - count;
-    if room <= waiting {
-        return Err(Refusal::TooManyLines {
-            line: (number - (waiting - room)) as u32,
-        });
-    }
-    let indent = start - raw.from;
-    put_blanks(rows, count, waiting, indent, number);
-    rows[count + waiting] = make_row(indent, start, trim_end(text, start, raw.to), number);
-    Ok(LineTaken {
-        count: count + waiting + 1,
-        literal: Literal::Under(under),
-        waiting: 0,
-    })
-}
-
-#[tactic(auto, using(crate::proofs::ScanLaws::way_closed, crate::proofs::ScanLaws::way_blank, crate::proofs::ScanLaws::way_shallow, crate::proofs::ScanLaws::way_body))]
-fn way_of(text: &[u8], raw: Raw, literal: Literal) -> Way
-    requires { IsRaw text.now raw }
-    ensures { result ≡ way_of literal (raw_text text.now raw) }
-{
-    let Literal::Under(under) = literal else {
-        return Way::Normal;
-    };
-    if trim_start(text, raw.start, raw.to) == raw.to {
-        return Way::Blank(under);
-    }
-    if raw.start - raw.from <= under {
-        return Way::Normal;
-    }
-    Way::Body(under)
-}
-
-// A tab in its indentation stops any line but a blank one of a literal.
-fn read_line(
-    text: &[u8],
-    raw: Raw,
-    before: LineTaken,
-    rows: &mut [Row; MOST_LINES],
-) -> Result<LineTaken, Refusal>
-    requires { IsRaw text.now raw × (before.count ≤ most_lines) × (before.waiting < raw.number) }
-    ensures { Takes text.now rows.old rows.new before.count raw.number
-        (λ raws. scan before.literal before.waiting raw.number (raw_text text.now raw ∷ raws)) result }
-{
-    let way = way_of(text, raw, before.literal);
-    if let Way::Blank(under) = way {
-        return Ok(LineTaken {
-            literal: Literal::Under(under),
-            waiting: before.waiting + 1,
-            ..before
-        });
-    }
-    if tab_leads(text, raw.start, raw.to) {
-        return Err(Refusal::TabInIndentation {
-            line: raw.number as u32,
-        });
-    }
-    if let Way::Body(under) = way {
-        return body_line(text, raw, under, before.waiting, rows, before.count);
-    }
-    normal_line(text, raw, rows, before.count)
-}
-
-// The line that starts at `at`.
-fn raw_at(text: &[u8], at: usize, newline: usize, number: usize) -> Raw
-    requires { (at < length text.now) × (newline ≡ at + until_newline (drop at text.now)) × (newline ≤ length text.now) }
-    ensures { RawAt text.now at newline number result }
-{
-    let to = line_end(text, at, newline);
-    Raw {
-        from: at,
-        start: indent_end(text, at, to),
-        to,
-        number,
+        })
     }
 }
 
@@ -437,23 +491,19 @@ pub fn read_lines(text: &[u8], rows: &mut [Row; MOST_LINES]) -> Result<usize, Re
 {
     let mut at = 0;
     let mut number = 1;
+    let mut table = Table::new(rows);
     let mut taken = LineTaken {
-        count: 0,
         literal: Literal::Closed,
         waiting: 0,
     };
     while at < text.len() {
         let newline = newline_at(text, at);
-        let raw = raw_at(text, at, newline, number);
-        // `?` would copy what is known once more for each line, which is slower.
-        match read_line(text, raw, taken, rows) {
-            Ok(next) => taken = next,
-            Err(e) => return Err(e),
-        }
+        let line = RawLine::at(text, at, newline, number);
+        taken = table.read_line(line, taken)?;
         at = newline + 1;
         number += 1;
     }
-    Ok(taken.count)
+    Ok(table.count)
 }
 
 /// Whether a line is `-` or starts with `- `: `-1` and `---` are not.

@@ -9,7 +9,7 @@ use Rattle.item.specs.Encode.{encode, head}
 use Rattle.item.proofs.Size.{item-length}
 use Rattle.writer.specs.declared.Writer.{Writer}
 use Rattle.writer.specs.Writing.{cap_of, Appends}
-use Rattle.writer.proofs.Laws.{appends_more, appends_item, len_appended}
+use Rattle.writer.proofs.Laws.{appends_more, appends_item, len_appended, keeps_same}
 use Rattle.lines.specs.Lines.{Line}
 use Rattle.lines.specs.Table.{line_at}
 use Rattle.lines.specs.Ready.{Ended, AreLines}
@@ -184,3 +184,11 @@ wrote-string ls i old mid new next t o w p q =
       on = o;
       within = w;
     }
+
+pub ruleset counts = (row-end, row-stop, row-rest, row-size, extent_of)
+
+pub ruleset line_puts = (len_appended, length-replicate)
+
+pub ruleset lines_puts = (put_more, len_appended)
+
+pub ruleset empties = (leaf-short, keeps_same)

@@ -5,6 +5,7 @@ use Rattle.item.specs.Tree.{str}
 use Rattle.item.specs.Encode.{head}
 use Rattle.writer.specs.declared.Writer.{Writer}
 use Rattle.writer.specs.Writing.{cap_of, Appends}
+use Rattle.writer.proofs.Laws.{keeps_same}
 use Rattle.lines.specs.Lines.{Line}
 use Rattle.lines.specs.Table.{line_at}
 use Rattle.lines.specs.Ready.{AreLines}
@@ -76,3 +77,7 @@ module _ (ls : List Line) (i indent : ℕ) (are : AreLines ls) (h : i < length l
         let p' : Appends old mid (head 3 (length kept)) = rw kept-length p in
         let q' : Appends mid new kept = rw (d, ← kept-is) at q in
         rw x.left (wrote-string ls i old mid new b.next kept x.on x.within p' q')
+
+pub ruleset wholes = (extent_some, literal-short, literal-wrote, keeps_same)
+
+pub ruleset literals = (literal-none, literal-beside, literal_under_lem)

@@ -11,7 +11,7 @@ ghost use Rattle.literal.specs.Literal as definition;
 ghost use Rattle.literal.specs.Contract.{ReadsLines, ReadsPart};
 ghost use Rattle.literal.specs.Walk.{extra_spaces, body_from, Extent, whole};
 
-use item::Kind;
+use item::{HEADER, Kind};
 use lines::Lines;
 use refusal::Refusal;
 use writer::Writer;
@@ -35,7 +35,9 @@ fn extra_spaces(size: usize, deeper: usize) -> usize
     deeper
 }
 
-// The lines from `first` on that are indented by at least `indent`.
+// The lines from `first` on that are indented by at least `indent`. By their numbers, here and in `put_lines`: the number of the first line
+// behind them is what is answered.
+#[tactic(auto, using(crate::proofs::Laws::counts))]
 fn extent(lines: &Lines<'_>, first: usize, indent: usize) -> Body
     requires { first ≤ length lines.now }
     ensures { Extent lines.now first indent result }
@@ -54,6 +56,7 @@ fn extent(lines: &Lines<'_>, first: usize, indent: usize) -> Body
 }
 
 // A line of a literal, without its newline if that would stand at `to`.
+#[tactic(auto, using(crate::proofs::Laws::line_puts))]
 fn put_line(line: &[u8], spaces: usize, to: usize, writer: &mut Writer<'_>)
     requires line { writer.old.used + spaces + length line.now ≤ to }
     requires room { to ≤ cap_of writer.old }
@@ -68,6 +71,7 @@ fn put_line(line: &[u8], spaces: usize, to: usize, writer: &mut Writer<'_>)
 }
 
 // The lines that `extent` counts, up to `to`.
+#[tactic(auto, using(crate::proofs::Laws::lines_puts))]
 fn put_lines(lines: &Lines<'_>, first: usize, indent: usize, to: usize, writer: &mut Writer<'_>)
     requires first { first ≤ length lines.now }
     requires room { to ≤ cap_of writer.old }
@@ -85,7 +89,8 @@ fn put_lines(lines: &Lines<'_>, first: usize, indent: usize, to: usize, writer: 
     }
 }
 
-// How many of a literal's bytes are kept: `|-` drops the newline behind its last line, which is never blank.
+// How many of a literal's bytes are kept: `|-` drops the newline behind its last line, which is never blank. Whether it strips is a bool, as
+// the definitions have it.
 fn kept_len(len: usize, strip: bool) -> usize
     requires { 1 ≤ len }
     ensures { result ≡ (if strip then len - 1 else len) }
@@ -97,6 +102,7 @@ fn kept_len(len: usize, strip: bool) -> usize
 }
 
 // The literal of which line `i` is the first, and the first line behind it.
+#[tactic(auto, using(crate::proofs::Whole::wholes))]
 fn put_literal(
     lines: &Lines<'_>,
     i: usize,
@@ -112,7 +118,7 @@ fn put_literal(
 {
     let body = extent(lines, i, indent);
     let len = kept_len(body.len, strip);
-    writer.reserve(6 + len)?;
+    writer.reserve(HEADER + len)?;
     writer.header(Kind::Str, len);
     let to = writer.used() + len;
     put_lines(lines, i, indent, to, writer);
@@ -120,15 +126,17 @@ fn put_literal(
 }
 
 // A literal of no lines, where `i` is the first line that is left.
+#[tactic(auto, using(crate::proofs::Laws::empties))]
 fn put_empty(i: usize, writer: &mut Writer<'_>) -> Result<usize, Refusal>
     ensures { ReadsPart (definition.leaf (cap_of writer.old) writer.old.used (str [])) i writer.old writer.new result }
 {
-    writer.reserve(6)?;
+    writer.reserve(HEADER)?;
     writer.header(Kind::Str, 0);
     Ok(i)
 }
 
 /// The literal of a key that is indented by `under`, from line `i` on, and the first line behind it; `|-` strips.
+#[tactic(auto, using(crate::proofs::Whole::literals))]
 pub fn literal(
     lines: &Lines<'_>,
     i: usize,

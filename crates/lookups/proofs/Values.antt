@@ -1,21 +1,22 @@
 -- The search for a value beside a key, and `times` by the kind of its value. Assumes nothing.
-use Rattle.std.proofs.Common.{◌≡◌, refl, sym, ap, ◌∙◌, subst, ℕ, zero, suc, ◌+◌, ◌^◌, ◌≤◌, ◌<◌, ℤ, Bool, true, false, if◌then◌else◌, List, length, take, drop, Some, arith, le-ltb, lt-ltb}
+use Rattle.std.proofs.Common.{◌≡◌, ◌≢◌, refl, sym, ap, ◌∙◌, subst, ℕ, zero, suc, ◌+◌, ◌^◌, ◌≤◌, ◌<◌, Bool, true, false, if◌then◌else◌, List, length, Some, arith, le-ltb, lt-ltb}
+use Rattle.std.specs.Prelude.{Option as Maybe, None, IsSomeAnd, MatchOption}
 use Rattle.std.proofs.Math.Option.{Option, none, some, some-injective}
 use Rattle.refusal.specs.Base.{Answer, good, refused, ◌>>=◌, ◌>>◌, ensure, maybe, same}
 use Rattle.item.specs.Tree.{Yaml, null, bool, int, str, seq, dict, Entries, done, pair, get, Ranged}
-use Rattle.item.specs.Encode as N
 use Rattle.item.specs.Encode.{encode, kind_of, signed}
-use Rattle.item.specs.Decode.{untwos}
 use Rattle.item.proofs.Exact.{none≢}
 use Rattle.item.proofs.Size.{item-length}
 use Rattle.item.specs.Places.{header_at}
 use Rattle.item.specs.declared.Found as search
+use Rattle.item.specs.declared.Integer.{Integer}
+use Rattle.item.specs.declared.encoded.Part.{Part}
 use Rattle.item.specs.declared.Found.TheVariants as found
 use Rattle.entries.specs.Entries.{Stands, Holds, place_of, span_at}
-use Rattle.entries.proofs.Standing.{stands-is, stands_at, item-content, value-head, Valued}
-use Rattle.entries.proofs.Values.{mapped}
+use Rattle.entries.proofs.Standing.{stands-is, stands_at, item-content, value-head}
 use Rattle.entries.proofs.Walking.{value-stands, others-stand}
-use Rattle.nodes.proofs.Texts.{int_at, int-size}
+use Rattle.nodes.specs.Contract.{IsNode, IsMapping, AgreesInteger}
+use Rattle.nodes.specs.declared.node.Node.{Node}
 use Rattle.meaning.specs.Meaning.{Step}
 use Rattle.meaning.specs.Record.{text_item, step_parts, step_item}
 use Rattle.record.specs.Jobs.{Found, nothing}
@@ -102,7 +103,7 @@ module _ {s : List ℕ} (key : List ℕ) {from to : ℕ} (es : Entries) (h : Hol
 
 -- ---- in a value
 
-other-value : (key : List ℕ) (at : ℕ) (v : Yaml) → (kind_of v ≡ 5 → ⊥) → in_mapping key at v ≡ none
+other-value : (key : List ℕ) (at : ℕ) (v : Yaml) → kind_of v ≢ 5 → in_mapping key at v ≡ none
 unfolding in_mapping kind_of
 other-value key at null k = refl
 other-value key at (bool b) k = refl
@@ -111,17 +112,17 @@ other-value key at (str t) k = refl
 other-value key at (seq ys) k = refl
 other-value key at (dict es) k = absurd (k refl)
 
-module _ {s : List ℕ} {at kind from to : ℕ} (key : List ℕ) (v : Yaml) (i : Valued s at v kind from to) where
-  pub no-mapping : (kind ≡ 5 → ⊥) → good nothing ≡ good (item_part (in_mapping key at v))
+module _ (at : ℕ) (key : List ℕ) (v : Yaml) where
+  pub no_mapping : kind_of v ≢ 5 → good nothing ≡ good (item_part (in_mapping key at v))
   unfolding item_part maybe
-  no-mapping k = rw (other-value key at v (λ e. k (i.kind_is ∙ e)))
+  no_mapping k = rw (other-value key at v k)
 
-  pub in_mapping_lem : {x : Answer Found} → Ranged v → kind ≡ 5 → ((es : Entries) → Holds s from to es → x ≡ good (item_part (beside key from es))) → x ≡ good (item_part (in_mapping key at v))
+  pub in_mapping_lem : {part : Part} {x : Answer Found} → IsMapping v part → part.from ≡ at + 6
+      → ((es : Entries) → Holds part.bytes.now part.from part.to es → x ≡ good (item_part (beside key part.from es))) → x ≡ good (item_part (in_mapping key at v))
   unfolding in_mapping
-  in_mapping_lem g k f =
-      let m = mapped v g i k in
+  in_mapping_lem m start f =
       f m.entries m.holds
-      ∙ ap (λ (n : ℕ). good (item_part (beside key n m.entries))) i.start
+      ∙ ap (λ (n : ℕ). good (item_part (beside key n m.entries))) start
       ∙ ap (λ (y : Yaml). good (item_part (in_mapping key at y))) (sym m.is)
 
 module _ {s : List ℕ} {at start end : ℕ} (st : Step) (p : StepPart s at st 3 start end) where
@@ -161,38 +162,19 @@ beside_get key at (pair k v es) = go (same k key) (beside_get key (at + length (
 
 -- ---- `times`
 
-other-times : (number : ℕ) (v : Yaml) → (kind_of v ≡ 2 → ⊥) → refused 38 0 number ≡ times_in number v
+pub other_times : (number : ℕ) (v : Yaml) → kind_of v ≢ 2 → refused 38 0 number ≡ times_in number v
 unfolding times_in kind_of
-other-times number null k = refl
-other-times number (bool b) k = refl
-other-times number (int z) k = absurd (k refl)
-other-times number (str t) k = refl
-other-times number (seq ys) k = refl
-other-times number (dict es) k = refl
+other_times number null k = refl
+other_times number (bool b) k = refl
+other_times number (int z) k = absurd (k refl)
+other_times number (str t) k = refl
+other_times number (seq ys) k = refl
+other_times number (dict es) k = refl
 
-an_int : (v : Yaml) → kind_of v ≡ 2 → (z : ℤ) × (v ≡ int z)
-unfolding kind_of
-an_int null k = absurd (omega arith)
-an_int (bool b) k = absurd (omega arith)
-an_int (int z) k = (z, refl)
-an_int (str t) k = absurd (omega arith)
-an_int (seq ys) k = absurd (omega arith)
-an_int (dict es) k = absurd (omega arith)
-
-module _ {s : List ℕ} {at kind from to : ℕ} (number : ℕ) (v : Yaml) (i : Valued s at v kind from to) where
-  pub no_times : (kind ≡ 2 → ⊥) → refused 38 0 number ≡ times_in number v
-  no_times k = other-times number v (λ e. k (i.kind_is ∙ e))
-
-  module _ (k : kind ≡ 2) where
-    pub eight_bytes : from + 8 ≡ to
-    eight_bytes = omega (arith, i.start, i.end, int-size v (sym i.kind_is ∙ k))
-
-    pub times-is : {z : ℤ} → Ranged v → Stands s at (encode v) → z ≡ untwos (N.number (take 8 (drop from s))) → times_in number (int z) ≡ times_in number v
-    times-is {z} g st q =
-        let w = an_int v (sym i.kind_is ∙ k) in
-        let r = subst Ranged w.1 g in
-        let e : z ≡ w.0 = q ∙ ap (λ (n : ℕ). untwos (N.number (take 8 (drop n s)))) i.start ∙ int_at w.0 r (stands-is (ap (λ (y : Yaml). encode y) w.1) st) in
-        ap (λ (x : ℤ). times_in number (int x)) e ∙ ap (times_in number) (sym w.1)
+-- the integer that a value is, if a value stands there
+pub integer_there : (v : Yaml) (node : Maybe Node) (o : Maybe Integer) → IsSomeAnd node (IsNode v) → MatchOption node (o ≡ None) (λ n. (y : Yaml) → IsNode y n → AgreesInteger y o) → AgreesInteger v o
+integer_there v (Some node) o i h = h v i
+integer_there v None o i h = absurd i
 
 pub times_negative : (number m : ℕ) → refused 38 0 number ≡ times_in number (int (signed true m))
 unfolding times_in signed

@@ -6,7 +6,7 @@ ghost use Rattle.std.specs.Prelude.{◌≡◌, ℕ, ◌+◌, ◌≤◌, List, ma
 ghost use Rattle.refusal.specs.Base.{good, maybe};
 ghost use Rattle.item.specs.Tree.{Yaml, Entries, int, Ranged};
 ghost use Rattle.item.specs.Encode.{encode, signed};
-ghost use Rattle.entries.specs.Entries.{Stands, Holds};
+ghost use Rattle.entries.specs.Entries.{Stands, HoldsIn};
 ghost use Rattle.meaning.specs.Meaning.{Step};
 ghost use Rattle.meaning.specs.Record.{step_item};
 ghost use Rattle.record.specs.Jobs.{nothing, numbered, lookup_of};
@@ -14,9 +14,9 @@ ghost use Rattle.record.specs.Contract.{StepsLie, span_of, looked_of, told_of};
 ghost use Rattle.lookups.specs.Lookups as definition;
 ghost use Rattle.lookups.specs.Lookups.{has_id, number_of, beside, in_mapping, value_in, item_part, times_in, times_of};
 
-use entries::{Span, item_at, nth_item, search};
-use item::{Encoded, Found, Integer, Item, Kind, Part, header_at, same_bytes};
-use nodes::integer_at;
+use entries::{Span, find, item_at, nth_item};
+use item::{Encoded, Found, HEADER, Integer, Item, Part, same_bytes};
+use nodes::Node;
 use record::{Lookup, step_at, steps_of};
 use refusal::Refusal;
 
@@ -52,7 +52,7 @@ fn has_id(s: Encoded<'_>, from: usize, id: &[u8]) -> bool
         return false;
     }
     match nth_item(s.bytes, from, 1) {
-        Some(part) => same_bytes(&s.bytes[part.start + 6..part.end], id),
+        Some(part) => same_bytes(&s.bytes[part.start + HEADER..part.end], id),
         None => false,
     }
 }
@@ -67,7 +67,7 @@ fn find_id(steps: Part<'_>, id: &[u8]) -> Option<Span>
         let step = step.ok()?;
         if has_id(steps.encoded(), step.from, id) {
             let found = Span {
-                start: step.from - 6,
+                start: step.from - HEADER,
                 end: step.to,
             };
             return Some(found);
@@ -91,13 +91,14 @@ pub fn step_by_id(record: &[u8], id: &[u8]) -> Lookup
     Lookup::from(with_id(record, id))
 }
 
-// The value beside a key, among the entries of a part.
+// The value beside a key, among the entries of a part. Not `nodes::value_of`: which item it is hangs on its place, which `find` tells by
+// its clause `place`, and `value_of` promises the value alone.
 #[tactic(auto, using(crate::proofs::Values::nothing_beside, crate::proofs::Values::item_beside))]
 fn find_value(part: Part<'_>, key: &[u8]) -> Option<Span>
-    ensures { (es : Entries) → Holds part.entry.bytes.now part.entry.from part.entry.to es
+    ensures { (es : Entries) → HoldsIn part.entry es
         → span_of result ≡ good (item_part (beside key.now part.entry.from es)) }
 {
-    let Found::At(place) = search(part, key) else {
+    let Found::At(place) = find(part, key) else {
         return None;
     };
     item_at(part.bytes, place)
@@ -108,11 +109,8 @@ fn in_mapping(s: Encoded<'_>, at: usize, key: &[u8]) -> Option<Span>
     ensures { (v : Yaml) → Ranged v → Stands s.entry.bytes.now at (encode v)
         → span_of result ≡ good (item_part (in_mapping key.now at v)) }
 {
-    let item = header_at(s.bytes, at).ok()?;
-    if item.kind != Kind::Map as usize {
-        return None;
-    }
-    find_value(s.part(item.from, item.to), key)
+    let entries = Node::at(s, at)?.mapping()?;
+    find_value(entries, key)
 }
 
 // The same in the value of the step at `at`, the fourth of its parts.
@@ -121,7 +119,7 @@ fn value_in(s: Encoded<'_>, at: usize, key: &[u8]) -> Option<Span>
     ensures { (step : Step) → Ranged step.value → Stands s.entry.bytes.now at (step_item step)
         → span_of result ≡ good (item_part (value_in key.now at step)) }
 {
-    let value = nth_item(s.bytes, at + 6, 3)?;
+    let value = nth_item(s.bytes, at + HEADER, 3)?;
     in_mapping(s, value.start, key)
 }
 
@@ -150,32 +148,20 @@ pub fn value_by_key(record: &[u8], number: usize, key: &[u8]) -> Lookup
 fn times_of(n: Integer, number: u32) -> Result<u32, Refusal>
     ensures { told_of result ≡ times_in number (int (signed n.negative n.magnitude)) }
 {
-    let Integer {
-        negative,
-        magnitude,
-    } = n;
-    let is_zero = magnitude == 0;
-    if negative || is_zero {
+    let is_zero = n.magnitude == 0;
+    if n.negative || is_zero {
         return Err(Refusal::TimesNotPositive { step: number });
     }
-    let is_too_large = magnitude > 4294967295;
-    if is_too_large {
-        return Err(Refusal::TimesTooLarge { step: number });
-    }
-    Ok(magnitude as u32)
+    u32::try_from(n.magnitude).or(Err(Refusal::TimesTooLarge { step: number }))
 }
 
 // The same of the value at `at`.
 fn times_at(s: Encoded<'_>, at: usize, number: u32) -> Result<u32, Refusal>
     ensures { (v : Yaml) → Ranged v → Stands s.entry.bytes.now at (encode v) → told_of result ≡ times_in number v }
 {
-    let Ok(item) = header_at(s.bytes, at) else {
-        return Err(Refusal::TimesNotPositive { step: number });
-    };
-    if item.kind != Kind::Int as usize || item.to - item.from < 8 {
-        return Err(Refusal::TimesNotPositive { step: number });
-    }
-    times_of(integer_at(s.bytes, item.from), number)
+    let n = Node::at(s, at).and_then(Node::integer);
+    let n = n.ok_or(Refusal::TimesNotPositive { step: number })?;
+    times_of(n, number)
 }
 
 // How often the step is repeated, if the bytes are a record that has it.

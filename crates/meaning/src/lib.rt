@@ -2,18 +2,11 @@
 #![tactic(auto)]
 
 ghost use Rattle.std.specs.Prelude.{◌≡◌};
-ghost use Rattle.std.specs.List.{list_any};
-ghost use Rattle.refusal.specs.Base.{same, one_of};
+ghost use Rattle.refusal.specs.Base.{one_of};
 ghost use Rattle.meaning.specs.Meaning.{step_fields, built_in_steps};
 ghost use Rattle.meaning.specs.Meanings.{top_keys};
 
-use item::same_bytes;
-
-fn one_of(key: &[u8], names: &[&[u8]]) -> bool
-    ensures { result ≡ list_any (λ name. same key.now name.now) names.now }
-{
-    names.iter().any(|name| same_bytes(key, name))
-}
+use item::one_of;
 
 /// Whether a key of the whole scenario has a meaning.
 #[tactic(auto, unfolding(refusal::specs::Base::bytes, refusal::specs::Base::one_of, crate::specs::Meanings::top_keys))]

@@ -1,9 +1,11 @@
 -- What the items of values say: which text a value has, and an integer's sign and magnitude. Assumes nothing.
-use Rattle.std.proofs.Common.{◌≡◌, refl, sym, ap, ◌∙◌, ℕ, suc, ◌+◌, ◌-◌, ◌≤◌, ◌<◌, ◌^◌, arith, [], List, Bool, true, false, not, length, take, drop, get_or, ℤ, pos, negsuc, neg_ℤ}
+use Rattle.std.proofs.Common.{Bor, ◌≡◌, ◌≢◌, refl, sym, ap, ◌∙◌, ℕ, suc, ◌+◌, ◌-◌, ◌≤◌, ◌<◌, ◌^◌, arith, [], List, Bool, true, false, not, eqb, ltb, length, take, drop, get_or, ℤ, pos, negsuc}
 use Rattle.std.proofs.Math.Option.{Option, none, some}
-use Rattle.std.proofs.lemmas.Bool.{lt-ltb, le-ltb}
+use Rattle.std.proofs.lemmas.Bool.{le-ltb, eq-eqb, eqb-true, false≢true}
 use Rattle.std.specs.Int.Signed.{mag}
-use Rattle.std.specs.Prelude.{nat_eq}
+use Rattle.std.specs.Int.{w64, cast_signed, is_negative}
+use Rattle.std.specs.Prelude.{nat_eq, unsigned_abs, Option as Maybe, Some, None, Result, Ok, Err, IfSome, IsSomeAnd}
+use Rattle.std.specs.Bool.{then_some}
 use Rattle.std.specs.Result.{result_ok}
 use Rattle.refusal.specs.Base.{maybe, bytes}
 use Rattle.item.specs.Tree.{Yaml, null, bool, int, str, seq, dict, Ranged}
@@ -11,29 +13,37 @@ use Rattle.item.specs.Encode.{number, le, twos, flag, item, encode, signed, kind
 use Rattle.item.specs.Places.{header_at}
 use Rattle.item.specs.Decode.{untwos}
 use Rattle.item.specs.declared.Item.{Item}
+use Rattle.item.specs.declared.Broken.{Broken}
+use Rattle.item.specs.declared.encoded.Part.{Part}
 use Rattle.item.proofs.RoundTrip.{number-le, twos_back, twos_small}
-use Rattle.item.proofs.Size.{le-length, item-length}
+use Rattle.item.proofs.Size.{le-length}
 use Rattle.number.specs.Integers.{int_text}
 use Rattle.number.proofs.Laws.{decimal-twenty}
 use Rattle.scalar.specs.Scalars.{key_text, bool_text}
 use Rattle.entries.specs.Entries.{Stands, FoundAt, content}
-use Rattle.entries.proofs.Standing.{stands-is, stands_at, stands-part, stands-byte, item-content, value-item, value-size, value-head}
+use Rattle.entries.proofs.Standing.{stands_at, stands-part, stands-byte, value-size, value-head, valued}
+use Rattle.entries.proofs.Values.{entries-of, items_of}
 use Rattle.meaning.specs.Meanings.{or_empty}
 use Rattle.meaning.specs.Record.{optional, text_item}
-use Rattle.nodes.specs.Contract.{IsItem, FoundItem, FindsItem, scalar_text, text_or_empty, or_null}
+use Rattle.nodes.specs.declared.node.Node.{Node}
+use Rattle.nodes.specs.declared.Scalar.{Scalar}
+use Rattle.nodes.specs.declared.Scalar.TheVariants as scalars
+use Rattle.nodes.specs.Contract.{told_of, AgreesMapping, AgreesItems, AgreesScalar, IsItem, IsNode, FoundNode, NodeOf, FindsNode, IsMapping, IsItems, scalar_text, text_or_empty, or_null}
 
 -- ---- integers
 
-pub positive-is : (n : ℕ) → n < 2 ^ 63 → signed false n ≡ untwos n
-unfolding signed untwos
-positive-is n h = rw (lt-ltb n (2 ^ 63) (omega arith))
+pub by_sign : (z : ℤ) → signed (is_negative z) (unsigned_abs z) ≡ z
+unfolding signed
+by_sign (pos n) = ap (λ (b : Bool). signed b n) (le-ltb n 0 (omega arith))
+by_sign (negsuc n) = refl
 
-pub negative-is : (n m : ℕ) → 2 ^ 63 ≤ n → n < 2 ^ 64 → m + n ≡ 2 ^ 64 → signed true m ≡ untwos n
-unfolding signed untwos
-negative-is n m h g e = rw (le-ltb n (2 ^ 63) (omega arith)) (suc-form m (18446744073709551615 - n) (omega arith))
+pub sign-is : (n : ℕ) → cast_signed w64 n ≡ untwos n
+unfolding untwos
+sign-is n = go (ltb n (2 ^ 63)) refl
   where
-    suc-form : (m k : ℕ) → m ≡ suc k → neg_ℤ (pos m) ≡ negsuc k
-    suc-form m k e = rw e
+    go : (b : Bool) → ltb n (2 ^ 63) ≡ b → cast_signed w64 n ≡ untwos n
+    go true e = rw e refl
+    go false e = rw e (ap negsuc (omega arith))
 
 pub int_back : {s : List ℕ} {p : ℕ} (x : ℤ) → mag x < 2 ^ 63 → Stands s p (content (int x)) → untwos (number (take 8 (drop p s))) ≡ x
 unfolding content
@@ -41,20 +51,10 @@ int_back {s} {p} x g st =
     let j : take 8 (drop p s) ≡ le 8 (twos x) = stands-part st 8 (sym (le-length 8 (twos x))) in
     ap (λ (l : List ℕ). untwos (number l)) j ∙ ap untwos (number-le 8 (twos x) (twos_small x g)) ∙ twos_back x g
 
-pub int_at : {s : List ℕ} {p : ℕ} (x : ℤ) → mag x < 2 ^ 63 → Stands s p (encode (int x)) → untwos (number (take 8 (drop (p + 6) s))) ≡ x
-unfolding encode content
-int_at x g st = int_back x g (item-content 2 (le 8 (twos x)) st)
+-- ---- the scalar that a value is, by its item's kind
 
-pub int-size : (y : Yaml) → kind_of y ≡ 2 → length (encode y) ≡ 14
-unfolding kind_of encode
-int-size null k = absurd (omega arith)
-int-size (bool b) k = absurd (omega arith)
-int-size (int z) k = omega (arith, item-length 2 (le 8 (twos z)), le-length 8 (twos z))
-int-size (str t) k = absurd (omega arith)
-int-size (seq ys) k = absurd (omega arith)
-int-size (dict es) k = absurd (omega arith)
-
--- ---- a value's text, by its item's kind
+pub other_kind : {b : Bool} (n m : ℕ) → b ≡ eqb n m → b ≡ false → n ≡ m → ⊥
+other_kind n m e f k = false≢true (sym f ∙ e ∙ eq-eqb n m k)
 
 flag-told : (n : ℕ) (b : Bool) → n ≡ flag b → not (nat_eq n 0) ≡ b
 unfolding flag
@@ -62,42 +62,59 @@ flag-told n true e = rw e refl
 flag-told n false e = rw e refl
 
 module _ {s : List ℕ} {item : Item} where
-  pub bool_told : (y : Yaml) → item.kind ≡ 1 → IsItem s y item → some (bool_text (not (nat_eq (get_or s item.from 0) 0))) ≡ key_text y
-  unfolding kind_of key_text content
-  bool_told null k i = absurd (omega (arith, i.kind_is))
-  bool_told (bool b) k i = ap (λ (x : Bool). some (bool_text x)) (flag-told (get_or s item.from 0) b (stands-byte i.stands))
-  bool_told (int z) k i = absurd (omega (arith, i.kind_is))
-  bool_told (str t) k i = absurd (omega (arith, i.kind_is))
-  bool_told (seq ys) k i = absurd (omega (arith, i.kind_is))
-  bool_told (dict es) k i = absurd (omega (arith, i.kind_is))
+  pub bool_is : (y : Yaml) → item.kind ≡ 1 → IsItem s y item → y ≡ bool (not (nat_eq (get_or s item.from 0) 0))
+  unfolding kind_of content
+  bool_is null k i = absurd (omega (arith, i.kind_is))
+  bool_is (bool b) k i = ap bool (sym (flag-told (get_or s item.from 0) b (stands-byte i.stands)))
+  bool_is (int z) k i = absurd (omega (arith, i.kind_is))
+  bool_is (str t) k i = absurd (omega (arith, i.kind_is))
+  bool_is (seq ys) k i = absurd (omega (arith, i.kind_is))
+  bool_is (dict es) k i = absurd (omega (arith, i.kind_is))
 
-  pub int_told : (z : ℤ) (y : Yaml) → item.kind ≡ 2 → Ranged y → IsItem s y item → z ≡ untwos (number (take 8 (drop item.from s))) → some (int_text z) ≡ key_text y
-  unfolding kind_of key_text
-  int_told z null k g i e = absurd (omega (arith, i.kind_is))
-  int_told z (bool b) k g i e = absurd (omega (arith, i.kind_is))
-  int_told z (int x) k g i e = ap (λ (x : ℤ). some (int_text x)) (e ∙ int_back x g i.stands)
-  int_told z (str t) k g i e = absurd (omega (arith, i.kind_is))
-  int_told z (seq ys) k g i e = absurd (omega (arith, i.kind_is))
-  int_told z (dict es) k g i e = absurd (omega (arith, i.kind_is))
+  pub int_is : (z : ℤ) (y : Yaml) → item.kind ≡ 2 → Ranged y → IsItem s y item → z ≡ untwos (number (take 8 (drop item.from s))) → y ≡ int z
+  unfolding kind_of
+  int_is z null k g i e = absurd (omega (arith, i.kind_is))
+  int_is z (bool b) k g i e = absurd (omega (arith, i.kind_is))
+  int_is z (int x) k g i e = ap int (sym (e ∙ int_back x g i.stands))
+  int_is z (str t) k g i e = absurd (omega (arith, i.kind_is))
+  int_is z (seq ys) k g i e = absurd (omega (arith, i.kind_is))
+  int_is z (dict es) k g i e = absurd (omega (arith, i.kind_is))
 
-  pub str_told : (y : Yaml) → item.kind ≡ 3 → IsItem s y item → some (take (item.to - item.from) (drop item.from s)) ≡ key_text y
-  unfolding kind_of key_text content
-  str_told null k i = absurd (omega (arith, i.kind_is))
-  str_told (bool b) k i = absurd (omega (arith, i.kind_is))
-  str_told (int z) k i = absurd (omega (arith, i.kind_is))
-  str_told (str t) k i = ap some (stands-part i.stands (item.to - item.from) (omega (arith, i.ends)))
-  str_told (seq ys) k i = absurd (omega (arith, i.kind_is))
-  str_told (dict es) k i = absurd (omega (arith, i.kind_is))
+  pub str_is : (y : Yaml) → item.kind ≡ 3 → IsItem s y item → y ≡ str (take (item.to - item.from) (drop item.from s))
+  unfolding kind_of content
+  str_is null k i = absurd (omega (arith, i.kind_is))
+  str_is (bool b) k i = absurd (omega (arith, i.kind_is))
+  str_is (int z) k i = absurd (omega (arith, i.kind_is))
+  str_is (str t) k i = ap str (sym (stands-part i.stands (item.to - item.from) (omega (arith, i.ends))))
+  str_is (seq ys) k i = absurd (omega (arith, i.kind_is))
+  str_is (dict es) k i = absurd (omega (arith, i.kind_is))
+
+  pub no_int : (y : Yaml) → IsItem s y item → (item.kind ≡ 2 → item.to - item.from < 8) → kind_of y ≢ 2
+  unfolding kind_of content
+  no_int null i b = λ k. absurd (omega (arith, k))
+  no_int (bool x) i b = λ k. absurd (omega (arith, k))
+  no_int (int x) i b = λ k. omega (arith, i.ends, le-length 8 (twos x), b i.kind_is)
+  no_int (str x) i b = λ k. absurd (omega (arith, k))
+  no_int (seq x) i b = λ k. absurd (omega (arith, k))
+  no_int (dict x) i b = λ k. absurd (omega (arith, k))
 
   -- none of the three, or too short to be one
-  pub nothing_told : (y : Yaml) → IsItem s y item → (item.kind ≡ 1 → item.to ≤ item.from) → (item.kind ≡ 2 → item.to - item.from < 8) → (item.kind ≡ 3 → ⊥) → none ≡ key_text y
+  pub nothing_told : (y : Yaml) → IsItem s y item → (item.kind ≡ 1 → item.to ≤ item.from) → kind_of y ≢ 2 → (item.kind ≡ 3 → ⊥) → none ≡ key_text y
   unfolding kind_of key_text content
   nothing_told null i a b c = refl
   nothing_told (bool x) i a b c = absurd (omega (arith, i.ends, a i.kind_is))
-  nothing_told (int x) i a b c = absurd (omega (arith, i.ends, le-length 8 (twos x), b i.kind_is))
+  nothing_told (int x) i a b c = absurd (b refl)
   nothing_told (str x) i a b c = absurd (c i.kind_is)
   nothing_told (seq x) i a b c = refl
   nothing_told (dict x) i a b c = refl
+
+-- a scalar's text
+pub told : (y : Yaml) (r : Maybe Scalar) → AgreesScalar y r → told_of r ≡ key_text y
+unfolding key_text
+told y None e = e
+told y (Some (scalars.Bool b)) e = rw e refl
+told y (Some (scalars.Int n)) e = rw e refl
+told y (Some (scalars.Str t)) e = rw e refl
 
 -- ---- how long a text is
 
@@ -113,20 +130,59 @@ bool_short false = omega arith
 
 -- ---- what was looked for
 
-pub found-item : {s : List ℕ} {p : ℕ} (o : Option Yaml) → length s ≤ 2 ^ 20 → FoundAt s o p → FindsItem s o (result_ok (header_at s p))
-found-item {s} {p} o small f =
-    rw (value-head f.value small f.stands)
-    (record {
-      value = f.value;
-      is = f.is;
-      ranged = f.ranged;
-      item_is = record {
-        kind_is = refl;
-        stands = item-content (kind_of f.value) (content f.value) (stands-is (value-item f.value) f.stands);
-        ends = omega (arith, value-size f.value);
-      };
-      whole = stands_at (omega arith) f.stands;
-    })
+there : {A B : Type 0} (r : Result A B) {x : A} → Some x ≡ result_ok r → Ok x ≡ r
+there (Ok y) e = cc e
+there (Err b) e = cc e
+
+not-there : {A B : Type 0} (r : Result A B) {x : A} → None ≡ result_ok r → r ≡ Ok x → ⊥
+not-there (Ok y) e q = absurd (let z : ◌≡◌ {A = ℕ} 0 1 = cc e in omega arith)
+not-there (Err b) e q = absurd (let z : ◌≡◌ {A = ℕ} 0 1 = cc q in omega arith)
+
+-- the node of a value that stands at a place
+module _ {s : List ℕ} {p : ℕ} {r : Result Item Broken} (h : r ≡ header_at s p) (y : Yaml) (g : Ranged y) (small : length s ≤ 2 ^ 20) (st : Stands s p (encode y)) where
+  pub node-item : {item : Item} → Some item ≡ result_ok r → Ranged y × IsItem s y item
+  node-item e =
+      let v = valued (there r e ∙ h) y small st in
+      (g, record { kind_is = v.kind_is; stands = v.inside; ends = v.ends })
+
+  pub no-node : None ≡ result_ok r → ⊥
+  no-node e = not-there r e (h ∙ value-head y small st)
+
+-- what `Node::at` tells of a value that was found
+pub node_of : (o : Maybe Node) (all : Bor (List ℕ)) → IfSome o (λ (node : Node). node.bytes ≡ all) → NodeOf all.now o
+node_of (Some node) all h = ap (λ (x : Bor (List ℕ)). x.now) h
+node_of None all h = tt
+
+pub found-node : (all : Bor (List ℕ)) {p : ℕ} (o : Option Yaml) (r : Maybe Node) (f : FoundAt all.now o p) → IfSome r (λ (node : Node). node.bytes ≡ all)
+    → IfSome r (λ (node : Node). node.item.from ≡ p + 6) → IsSomeAnd r (IsNode f.value) → FindsNode o r
+found-node all o None f b q i = absurd i
+found-node all o (Some node) f b q i = record {
+  value = f.value;
+  is = f.is;
+  node_is = i;
+  whole = rw b (stands_at (omega (arith, q)) f.stands);
+}
+
+-- ---- its entries, its items
+
+module _ (part : Part) {node : Node} (b : part.bytes ≡ node.bytes) (p : part.from ≡ node.item.from) (q : part.to ≡ node.item.to) (y : Yaml) (i : IsNode y node) where
+  node_mapping : node.item.kind ≡ 5 → IsMapping y part
+  node_mapping k =
+      let m = entries-of y i.ranged i.item_is.stands i.item_is.ends (sym i.item_is.kind_is ∙ k) in
+      record { entries = m.entries; is = m.is; holds = rw (b, p, q) m.holds }
+
+  node_items : node.item.kind ≡ 4 → IsItems y part
+  node_items k =
+      let m = items_of y i.ranged i.item_is.stands i.item_is.ends (sym i.item_is.kind_is ∙ k) in
+      record { items = m.items; is = m.is; holds = rw (b, p, q) m.holds }
+
+  pub mapping_if : (t : Bool) → t ≡ eqb node.item.kind 5 → AgreesMapping y (then_some t part)
+  mapping_if true e = node_mapping (eqb-true _ _ (sym e))
+  mapping_if false e = λ k. other_kind _ _ e refl (i.item_is.kind_is ∙ k)
+
+  pub sequence_if : (t : Bool) → t ≡ eqb node.item.kind 4 → AgreesItems y (then_some t part)
+  sequence_if true e = node_items (eqb-true _ _ (sym e))
+  sequence_if false e = λ k. other_kind _ _ e refl (i.item_is.kind_is ∙ k)
 
 pub nothing_there : (o : Option Yaml) → o ≡ none → none ≡ scalar_text o
 unfolding maybe
@@ -159,9 +215,9 @@ module _ (o : Option Yaml) where
   unfolding maybe
   no-value e q = rw (q, e) refl
 
-  pub value-part : {s : List ℕ} {item : Item} {v : Yaml} → 6 ≤ item.from → FoundItem s o item → v ≡ or_null o
-      → take (item.to - (item.from - 6)) (drop (item.from - 6) s) ≡ encode v
+  pub value-part : {node : Node} {v : Yaml} → FoundNode o node → v ≡ or_null o
+      → take (node.item.to - (node.item.from - 6)) (drop (node.item.from - 6) node.bytes.now) ≡ encode v
   unfolding maybe
-  value-part {s} {item} {v} h f q =
+  value-part {node} {v} f q =
       let e : v ≡ f.value = rw (q, f.is) refl in
-      rw e (stands-part f.whole (item.to - (item.from - 6)) (omega (arith, f.item_is.ends, value-size f.value)))
+      rw e (stands-part f.whole (node.item.to - (node.item.from - 6)) (omega (arith, node.inside, f.node_is.item_is.ends, value-size f.value)))

@@ -1,18 +1,20 @@
 -- Section 4 of document 01, for contracts: what is read of a tree, and what is written of it. Uses Base and Told of `refusal`; Tree and
 -- Encode of `item`; Integers of `number`; Scalars of `scalar`; Entries of `entries`; Writing of this crate. Assumes nothing.
-use Rattle.std.specs.Prelude.{◌≡◌, ℕ, ◌+◌, ◌-◌, List, length, ⊤, Option as Maybe, Some, None, Result, Ok, Err}
+use Rattle.std.specs.Prelude.{◌≡◌, ◌≢◌, ℕ, ◌+◌, ◌-◌, List, length, ⊤, Option as Maybe, Some, None, Result, Ok, Err}
 use Rattle.std.proofs.Math.Option.{Option, none, some}
 use Rattle.refusal.specs.Base.{Answer, good, maybe}
 use Rattle.refusal.specs.Told.{refusal}
 use Rattle.refusal.specs.declared.Refusal.{Refusal}
-use Rattle.item.specs.Tree.{Yaml, null, Ranged}
+use Rattle.item.specs.Tree.{Yaml, null, bool, int, str, seq, dict, Items, Entries, Ranged}
 use Rattle.item.specs.Encode.{encode, kind_of, signed}
-use Rattle.item.specs.declared.Found.{Found}
+use Rattle.item.specs.declared.encoded.Part.{Part}
 use Rattle.item.specs.declared.Item.{Item}
+use Rattle.item.specs.declared.Integer.{Integer}
 use Rattle.number.specs.Integers.{int_text}
 use Rattle.scalar.specs.Scalars.{bool_text, key_text}
-use Rattle.entries.specs.Entries.{Stands, Finds, content}
+use Rattle.entries.specs.Entries.{Stands, Holds, content}
 use Rattle.meaning.specs.Meanings.{or_empty}
+use Rattle.nodes.specs.declared.node.Node.{Node}
 use Rattle.nodes.specs.declared.Scalar.{Scalar}
 use Rattle.nodes.specs.declared.Scalar.TheVariants.{Bool, Int, Str}
 use Rattle.nodes.specs.declared.output.RecordWriter.{RecordWriter}
@@ -26,17 +28,58 @@ pub record IsItem (s : List ℕ) (y : Yaml) (item : Item) : Type 0 where
   pub stands : Stands s item.from (content y)
   pub ends : item.to ≡ item.from + length (content y)
 
--- a value that was looked for, by its item
-pub record FoundItem (s : List ℕ) (o : Option Yaml) (item : Item) : Type 0 where
+-- a value with integers of 64 bits, and the node that it stands as
+pub record IsNode (y : Yaml) (node : Node) : Type 0 where
+  pub ranged : Ranged y
+  pub item_is : IsItem node.bytes.now y node.item
+
+-- a value that was looked for, and its node
+pub record FoundNode (o : Option Yaml) (node : Node) : Type 0 where
   pub value : Yaml
   pub is : o ≡ some value
-  pub ranged : Ranged value
-  pub item_is : IsItem s value item
-  pub whole : Stands s (item.from - 6) (encode value)
+  pub node_is : IsNode value node
+  pub whole : Stands node.bytes.now (node.item.from - 6) (encode value)
 
-abbrev pub FindsItem : List ℕ → Option Yaml → Maybe Item → Type 0
-FindsItem s o (Some item) = FoundItem s o item
-FindsItem s o None = o ≡ none
+abbrev pub FindsNode : Option Yaml → Maybe Node → Type 0
+FindsNode o (Some node) = FoundNode o node
+FindsNode o None = o ≡ none
+
+-- a value that stands in these bytes, if there is one
+abbrev pub NodeOf : List ℕ → Maybe Node → Type 0
+NodeOf s (Some node) = node.bytes.now ≡ s
+NodeOf s None = Unit {0}
+
+-- a mapping, and the part where its entries stand
+pub record IsMapping (y : Yaml) (part : Part) : Type 0 where
+  pub entries : Entries
+  pub is : y ≡ dict entries
+  pub holds : Holds part.bytes.now part.from part.to entries
+
+abbrev pub AgreesMapping : Yaml → Maybe Part → Type 0
+AgreesMapping y (Some part) = IsMapping y part
+AgreesMapping y None = kind_of y ≢ 5
+
+-- a sequence, and the part where its items stand
+pub record IsItems (y : Yaml) (part : Part) : Type 0 where
+  pub items : Items
+  pub is : y ≡ seq items
+  pub holds : Holds part.bytes.now part.from part.to items
+
+abbrev pub AgreesItems : Yaml → Maybe Part → Type 0
+AgreesItems y (Some part) = IsItems y part
+AgreesItems y None = kind_of y ≢ 4
+
+-- the integer that a value is; nothing else is one
+abbrev pub AgreesInteger : Yaml → Maybe Integer → Type 0
+AgreesInteger y (Some n) = y ≡ int (signed n.negative n.magnitude)
+AgreesInteger y None = kind_of y ≢ 2
+
+-- the scalar that a value is; null and collections are none
+abbrev pub AgreesScalar : Yaml → Maybe Scalar → Type 0
+AgreesScalar y None = none ≡ key_text y
+AgreesScalar y (Some (Bool b)) = y ≡ bool b
+AgreesScalar y (Some (Int n)) = y ≡ int (signed n.negative n.magnitude)
+AgreesScalar y (Some (Str t)) = y ≡ str t.now
 
 -- a scalar's text
 abbrev pub text_of : Scalar → List ℕ
@@ -58,10 +101,10 @@ scalar_text o = maybe o none key_text
 abbrev pub text_or_empty : Option Yaml → List ℕ
 text_or_empty o = or_empty (scalar_text o)
 
--- what a key's value comes to, where it was found
-pub record ReadsFound {A : Type 0} (s : List ℕ) (of : Option Yaml → A) (place : Found) (a : A) : Type 0 where
+-- what a value that was looked for comes to
+pub record ReadsFound {A : Type 0} (of : Option Yaml → A) (node : Maybe Node) (a : A) : Type 0 where
   pub value : Option Yaml
-  pub found : Finds s value place
+  pub found : FindsNode value node
   pub is : a ≡ of value
 
 -- ---- what is written

@@ -8,6 +8,13 @@ use Rattle.nodes.specs.declared.output.RecordWriter.{RecordWriter}
 abbrev pub behind : ℕ → ℕ → ℕ
 behind at size = min (at + size) (2 ^ 64 - 1)
 
+-- bytes are stored at a place if they end within the output, and tell where they end
+pub record Stored (old new : List ℕ) (at : ℕ) (bytes : List ℕ) (end : ℕ) : Type 0 where
+  pub grows : at ≤ end
+  pub ends : end ≡ behind at (length bytes)
+  pub stored : at + length bytes ≤ length old → new ≡ sets old at bytes
+  pub kept : length new ≡ length old
+
 -- whatever was written: the same output, of the same length, and no end before the old one
 pub record Goes (old new : RecordWriter) : Type 0 where
   pub same_reference : new.out.ghost_name ≡ old.out.ghost_name

@@ -3,23 +3,25 @@
 
 ghost use Rattle.std.specs.Prelude.{◌≡◌, ℕ, ◌+◌, ◌≤◌, ◌^◌, List, IfSome, length, take, drop};
 ghost use Rattle.std.proofs.Math.Option.{Option};
-ghost use Rattle.item.specs.Tree.{Yaml, Ranged};
+ghost use Rattle.item.specs.Tree.{Yaml, Entries, get};
 ghost use Rattle.item.specs.Encode.{number, encode, signed};
 ghost use Rattle.item.specs.Decode.{untwos};
-ghost use Rattle.scalar.specs.Scalars.{key_text};
-ghost use Rattle.entries.specs.Entries.{Finds};
+ghost use Rattle.entries.specs.Entries.{HoldsIn};
 ghost use Rattle.meaning.specs.Record.{text_item, optional};
-ghost use Rattle.nodes.specs.Writing.{GoesAtMost, Writes};
-ghost use Rattle.nodes.specs.Contract.{IsItem, FindsItem, text_of, told_of, ReadsFound, scalar_text, text_or_empty, or_null};
+ghost use Rattle.nodes.specs.Writing.{Stored, GoesAtMost, Writes};
+ghost use Rattle.nodes.specs.Contract.{FindsNode, text_of, told_of, ReadsFound, scalar_text, text_or_empty, or_null};
 
+mod node;
 mod output;
 
-use item::{Encoded, Found, Integer, Item, Kind, header_at};
-use output::HEADER;
+use entries::find;
+use item::{Integer, Part, copy};
+pub use node::Node;
 pub use output::RecordWriter;
 
 /// A value that has a text: a boolean, an integer, or a string.
-#[derive(Clone, Copy)]
+// No `PartialEq`: it would compare strings by `memcmp`, which libraries do not call.
+#[derive(Clone, Copy, Debug)]
 pub enum Scalar<'a> {
     Bool(bool),
     Int(Integer),
@@ -31,93 +33,73 @@ pub fn integer_at(s: &[u8], at: usize) -> Integer
     requires { at + 8 ≤ length s.now }
     ensures { signed result.negative result.magnitude ≡ untwos (number (take 8 (drop at s.now))) }
 {
-    let n = u64::from_le_bytes([
-        s[at],
-        s[at + 1],
-        s[at + 2],
-        s[at + 3],
-        s[at + 4],
-        s[at + 5],
-        s[at + 6],
-        s[at + 7],
-    ]);
-    let negative = n >= 1 << 63;
+    let mut bytes = [0; 8];
+    bytes.copy_from_slice(&s[at..at + 8]);
+    let n = i64::from_le_bytes(bytes);
     Integer {
-        negative,
-        magnitude: if negative { n.wrapping_neg() } else { n },
+        negative: n.is_negative(),
+        magnitude: n.unsigned_abs(),
     }
 }
 
-/// The item of a value that was looked for, if it was found and an item stands there.
-pub fn item_found(s: Encoded<'_>, found: Found) -> Option<Item>
-    ensures inside { IfSome result (λ item. (6 ≤ item.from) × (item.from ≤ item.to) × (item.to ≤ length s.entry.bytes.now)) }
-    ensures item { (o : Option Yaml) → Finds s.entry.bytes.now o found → FindsItem s.entry.bytes.now o result }
+/// The value beside a key among the entries of a part.
+pub fn value_of<'a>(part: Part<'a>, key: &[u8]) -> Option<Node<'a>>
+    ensures bytes { IfSome result (λ node. node.bytes ≡ part.entry.bytes) }
+    ensures value { (es : Entries) → HoldsIn part.entry es → FindsNode (get key.now es) result }
 {
-    let Found::At(p) = found else {
-        return None;
-    };
-    header_at(s.bytes, p).ok()
+    Node::found(part.encoded(), find(part, key))
 }
 
-/// The scalar that an item is, which has a text; null and collections have none.
-pub fn scalar_of(s: Encoded<'_>, item: Item) -> Option<Scalar<'_>>
-    requires { (item.from ≤ item.to) × (item.to ≤ length s.bytes.now) }
+/// The scalar that a value is, if it was found.
+pub fn scalar_of(node: Option<Node<'_>>) -> Option<Scalar<'_>>
     ensures short { IfSome result (λ scalar. length (text_of scalar) ≤ 2 ^ 20) }
-    ensures text { (y : Yaml) → Ranged y → IsItem s.entry.bytes.now y item → told_of result ≡ key_text y }
+    ensures text { (o : Option Yaml) → FindsNode o node.entry → told_of result ≡ scalar_text o }
 {
-    let is_bool = item.kind == Kind::Bool as usize;
-    if is_bool && item.from < item.to {
-        return Some(Scalar::Bool(s.bytes[item.from] != 0));
-    }
-    let is_int = item.kind == Kind::Int as usize;
-    if is_int && item.to - item.from >= 8 {
-        return Some(Scalar::Int(integer_at(s.bytes, item.from)));
-    }
-    let is_string = item.kind == Kind::Str as usize;
-    if is_string {
-        return Some(Scalar::Str(&s.bytes[item.from..item.to]));
-    }
-    None
+    node?.scalar()
 }
 
-/// The same of a value that was looked for.
-pub fn scalar_found(s: Encoded<'_>, found: Found) -> Option<Scalar<'_>>
-    ensures short { IfSome result (λ scalar. length (text_of scalar) ≤ 2 ^ 20) }
-    ensures text { (o : Option Yaml) → Finds s.entry.bytes.now o found → told_of result ≡ scalar_text o }
+/// Stores bytes at a place of an output, however long that is, if they end within it, and tells where they end, as far as numbers go.
+// A function of its own beside `RecordWriter::put`: an output may be longer than a `RecordWriter` holds.
+pub fn put(out: &mut [u8], at: usize, bytes: &[u8]) -> usize
+    ensures { Stored out.old out.new at bytes.now result }
 {
-    scalar_of(s, item_found(s, found)?)
+    let end = at.saturating_add(bytes.len());
+    if end <= out.len() {
+        copy(out, at, bytes);
+    }
+    end
 }
 
 /// The text of a value that was looked for, or an empty one where there is no scalar.
-pub fn put_found(s: Encoded<'_>, found: Found, writer: &mut RecordWriter<'_>)
+pub fn put_text(node: Option<Node<'_>>, writer: &mut RecordWriter<'_>)
     ensures goes { GoesAtMost (2 ^ 21) writer.old writer.new }
-    ensures text { (t : List ℕ) → ReadsFound s.entry.bytes.now text_or_empty found t → Writes writer.old writer.new (text_item t) }
+    ensures text { (t : List ℕ) → ReadsFound text_or_empty node.entry t → Writes writer.old writer.new (text_item t) }
 {
-    match scalar_found(s, found) {
+    match scalar_of(node) {
         Some(scalar) => writer.scalar(scalar),
         None => writer.text(b""),
     }
 }
 
 /// The same, or null where there is no scalar.
-pub fn put_optional(s: Encoded<'_>, found: Found, writer: &mut RecordWriter<'_>)
+// Not one function with `put_text`: they differ in what stands for no text alone, and a closure for that would need a contract of its own.
+pub fn put_optional(node: Option<Node<'_>>, writer: &mut RecordWriter<'_>)
     ensures goes { GoesAtMost (2 ^ 21) writer.old writer.new }
-    ensures text { (t : Option (List ℕ)) → ReadsFound s.entry.bytes.now scalar_text found t
-        → Writes writer.old writer.new (encode (optional t)) }
+    ensures text { (t : Option (List ℕ)) → ReadsFound scalar_text node.entry t → Writes writer.old writer.new (encode (optional t)) }
 {
-    match scalar_found(s, found) {
+    match scalar_of(node) {
         Some(scalar) => writer.scalar(scalar),
         None => writer.null(),
     }
 }
 
 /// The item of a value that was looked for, as it stands, or null.
-pub fn put_value(s: Encoded<'_>, found: Found, writer: &mut RecordWriter<'_>)
+pub fn put_value(node: Option<Node<'_>>, writer: &mut RecordWriter<'_>)
     ensures goes { GoesAtMost (2 ^ 21) writer.old writer.new }
-    ensures value { (v : Yaml) → ReadsFound s.entry.bytes.now or_null found v → Writes writer.old writer.new (encode v) }
+    ensures value { (v : Yaml) → ReadsFound or_null node.entry v → Writes writer.old writer.new (encode v) }
 {
-    match item_found(s, found) {
-        Some(item) => writer.put(&s.bytes[item.from - HEADER..item.to]),
+    match node {
+        Some(node) => writer.put(node.whole()),
         None => writer.null(),
     }
 }

@@ -5,14 +5,12 @@ ghost use Rattle.item.specs.Encode.{item, encode, signed};
 ghost use Rattle.number.specs.Integers.{int_text};
 ghost use Rattle.scalar.specs.Scalars.{bool_text};
 
-use crate::Scalar;
-use item::{Integer, Kind, copy, put_header};
+use crate::{Scalar, put};
+use item::{HEADER, Integer, Kind, put_header};
 use number::{int_len, put_int_text};
 
-// How many bytes an item's header has.
-pub(crate) const HEADER: usize = 6;
-
 /// A lent output, and where what was written ends, which may be beyond it.
+// The bound is what counts of any output; `close_as` needs one, since a header has four bytes for a length.
 #[derive(Drop)]
 pub struct RecordWriter<'a> {
     pub out: &'a mut [u8],
@@ -41,12 +39,7 @@ impl RecordWriter<'_> {
     pub fn put(&mut self, bytes: &[u8])
         ensures { Writes self.old self.new bytes.now }
     {
-        let end = self.end.saturating_add(bytes.len());
-        if end <= self.out.len() {
-            let out = &mut *self.out;
-            copy(out, self.end, bytes);
-        }
-        self.end = end;
+        self.end = put(self.out, self.end, bytes);
     }
 
     /// Leaves a header free, which `close` fills in, and tells where it is.
@@ -58,15 +51,15 @@ impl RecordWriter<'_> {
         header
     }
 
-    /// Fills in the header of an item of any kind that fits a header, if the item fits: its content is all that stands behind it.
+    /// Fills in the header of an item, if the item fits: its content is all that stands behind it. The kind is a number, as a header can
+    /// have any of 16 bits.
     pub fn close_as(&mut self, header: usize, kind: usize)
         requires item { self.old.end ≤ length self.old.out.now → header + 6 ≤ self.old.end }
         requires kind { kind < 2 ^ 16 }
         ensures { Closes self.old self.new header kind }
     {
         if self.end <= self.out.len() {
-            let out = &mut *self.out;
-            put_header(out, header, kind, self.end - header - HEADER);
+            put_header(self.out, header, kind, self.end - header - HEADER);
         }
     }
 
@@ -91,7 +84,7 @@ impl RecordWriter<'_> {
         ensures { Writes self.old self.new (encode (bool value)) }
     {
         let header = self.open();
-        self.put(&[value as u8]);
+        self.put(&[u8::from(value)]);
         self.close(header, Kind::Bool);
     }
 
@@ -109,8 +102,7 @@ impl RecordWriter<'_> {
     {
         let end = self.end.saturating_add(int_len(n));
         if end <= self.out.len() {
-            let out = &mut *self.out;
-            put_int_text(out, self.end, n);
+            put_int_text(self.out, self.end, n);
         }
         self.end = end;
     }

@@ -1,9 +1,10 @@
 -- Decimal digits, read from the front and written from the end. Assumes nothing.
 use Rattle.std.specs.Prelude.{if◌then◌else◌}
-use Rattle.std.proofs.Common.{◌≡◌, refl, ap, ◌∙◌, ℕ, zero, suc, ◌+◌, ◌*◌, ◌-◌, ◌/◌, ◌%◌, ◌^◌, ◌≤◌, ◌<◌, pow-suc, add-one, arith, List, [], ◌∷◌, ◌++◌, Bool, true, false, ◌&&◌, not, ltb, eqb, length, set, drop, get_or, drop_of_length-le, length-append, drop-cons, lt-ltb, le-ltb, le-leb, eq-eqb, ne_eqb, ltb-true, ltb-false}
+use Rattle.std.proofs.Common.{◌≡◌, refl, ap, ◌∙◌, ℕ, zero, suc, ◌+◌, ◌*◌, ◌-◌, ◌/◌, ◌%◌, ◌^◌, ◌≤◌, ◌<◌, pow-suc, add-one, arith, List, [], ◌∷◌, ◌++◌, Bool, true, false, ◌&&◌, not, ltb, eqb, length, set, drop, get_or, drop_of_length-le, length-append, drop-cons, leb, lt-ltb, le-ltb, le-leb, eq-eqb, ne_eqb, ltb-true, ltb-false}
 use Rattle.std.proofs.Math.Bool.{and-true, and-false}
 use Rattle.std.proofs.Math.Option.{Option, none, some}
 use Rattle.std.proofs.Math.Seq.{sets}
+use Rattle.std.proofs.Math.Nat.{one-le-pow}
 use Rattle.std.proofs.lemmas.Bool.{lt-leb}
 use Rattle.refusal.specs.Base.{ch, empty}
 use Rattle.utf8.specs.Utf8.{within}
@@ -11,7 +12,7 @@ use Rattle.std.specs.Char.{is_ascii_digit}
 use Rattle.item.specs.Encode.{signed}
 use Rattle.item.proofs.Runs.{sets-before}
 use Rattle.number.specs.Integers.{is_digit, all_digits, decimal_from, zero_first, digits, positive, negative, integer, decimal_of, int_text}
-use Rattle.number.specs.Code.{bounded, minused}
+use Rattle.number.specs.Code.{at_most, bounded, minused}
 
 -- ---- digits that are read
 
@@ -25,17 +26,45 @@ decimal-le n [] = omega arith
 decimal-le n (b ∷ s) = omega (arith, decimal-le (n * 10 + (b - ch "0")) s)
 
 -- digits only add
-pub from-over : (neg : Bool) (limit n : ℕ) (s : List ℕ) → limit < n → none ≡ bounded neg limit (digits_from n s)
-unfolding bounded digits_from
-from-over neg limit n s h = go (all_digits s)
+pub from-over : (limit n : ℕ) (s : List ℕ) → limit < n → none ≡ at_most limit (digits_from n s)
+unfolding at_most digits_from
+from-over limit n s h = go (all_digits s)
   where
-    go : (x : Bool) → none ≡ bounded neg limit (if x then some (decimal_from n s) else none)
+    go : (x : Bool) → none ≡ at_most limit (if x then some (decimal_from n s) else none)
     go true = rw (lt-leb (decimal_from n s) limit (omega (arith, decimal-le n s)))
     go false = refl
 
 pub digits-zero : (s : List ℕ) → zero_first s ≡ true → digits s ≡ none
 unfolding digits
 digits-zero s z = rw (z, and-false (not (empty s) && all_digits s))
+
+pub zero_short : (s : List ℕ) → length s < 2 → zero_first s ≡ false
+unfolding zero_first
+zero_short [] h = refl
+zero_short (a ∷ []) h = refl
+zero_short (a ∷ b ∷ s) h = absurd (omega arith)
+
+pub zero_is : (s : List ℕ) → 2 ≤ length s → get_or s 0 0 ≡ ch "0" → zero_first s ≡ true
+unfolding zero_first
+zero_is [] h e = absurd (omega arith)
+zero_is (a ∷ []) h e = absurd (omega arith)
+zero_is (a ∷ b ∷ s) h e = eq-eqb a (ch "0") e
+
+pub zero_other : (s : List ℕ) → (get_or s 0 0 ≡ ch "0" → ⊥) → zero_first s ≡ false
+unfolding zero_first
+zero_other [] n = refl
+zero_other (a ∷ []) n = refl
+zero_other (a ∷ b ∷ s) n = ne_eqb a (ch "0") n
+
+pub digits-none : (s : List ℕ) → length s ≡ 0 → digits s ≡ none
+unfolding digits empty
+digits-none [] h = refl
+digits-none (b ∷ s) h = absurd (omega arith)
+
+pub digits-start : (s : List ℕ) → (length s ≡ 0 → ⊥) → zero_first s ≡ false → digits s ≡ digits_from 0 s
+unfolding digits digits_from empty
+digits-start [] h z = absurd (h refl)
+digits-start (b ∷ s) h z = rw (z, and-true (not (empty (b ∷ s)) && all_digits (b ∷ s)))
 
 module _ (s : List ℕ) (i : ℕ) where
   pub zero_one : i < length s → length s ≤ suc i → zero_first (drop i s) ≡ false
@@ -46,17 +75,9 @@ module _ (s : List ℕ) (i : ℕ) where
   unfolding zero_first
   zero_more h = rw (drop-cons s i 0 (omega arith), drop-cons s (suc i) 0 h)
 
-  pub digits-none : length s ≤ i → digits (drop i s) ≡ none
-  unfolding digits empty
-  digits-none h = rw (drop_of_length-le s {i = i} h)
-
-  pub digits-start : i < length s → zero_first (drop i s) ≡ false → digits (drop i s) ≡ digits_from 0 (drop i s)
-  unfolding digits digits_from empty
-  digits-start h z = rw (z, and-true (not (empty (drop i s)) && all_digits (drop i s)), drop-cons s i 0 h)
-
-  pub from_end : (neg : Bool) (limit n : ℕ) → length s ≤ i → n ≤ limit → some (signed neg n) ≡ bounded neg limit (digits_from n (drop i s))
-  unfolding bounded digits_from all_digits decimal_from
-  from_end neg limit n h e = rw (drop_of_length-le s {i = i} h, le-leb n limit e)
+  pub from_end : (n : ℕ) → length s ≤ i → digits_from n (drop i s) ≡ some n
+  unfolding digits_from all_digits decimal_from
+  from_end n h = rw (drop_of_length-le s {i = i} h)
 
   module _ (n : ℕ) (h : i < length s) where
     pub from_other : is_ascii_digit (get_or s i 0) ≡ false → digits_from n (drop i s) ≡ none
@@ -68,6 +89,26 @@ module _ (s : List ℕ) (i : ℕ) where
     from_on e = rw (add-one, drop-cons s i 0 h, e)
 
 -- ---- the sign
+
+-- a magnitude, and none, with a sign
+module _ (neg : Bool) (limit : ℕ) where
+  pub none_signed : (o : Option ℕ) → none ≡ at_most limit o → none ≡ bounded neg limit o
+  unfolding at_most bounded
+  none_signed none e = refl
+  none_signed (some n) e = go (leb n limit) e
+    where
+      go : (x : Bool) → none ≡ (if x then some n else none) → none ≡ (if x then some (signed neg n) else none)
+      go true e = cc
+      go false e = refl
+
+  pub some_signed : (o : Option ℕ) {m : ℕ} → some m ≡ at_most limit o → some (signed neg m) ≡ bounded neg limit o
+  unfolding at_most bounded
+  some_signed none e = cc
+  some_signed (some n) {m} e = go (leb n limit) e
+    where
+      go : (x : Bool) → some m ≡ (if x then some n else none) → some (signed neg m) ≡ (if x then some (signed neg n) else none)
+      go true e = cc
+      go false e = cc
 
 negative-bounded : (o : Option ℕ) → negative o ≡ bounded true (2 ^ 63) o
 unfolding negative bounded signed
@@ -83,11 +124,6 @@ positive-bounded (some n) = go (ltb n (2 ^ 63)) refl
     go true e = rw (e, le-leb n 9223372036854775807 (omega (arith, ltb-true n (2 ^ 63) e)))
     go false e = rw (e, lt-leb n 9223372036854775807 (omega (arith, ltb-false n (2 ^ 63) e)))
 
-pub int-none : (s : List ℕ) → length s ≡ 0 → integer s ≡ none
-unfolding integer
-int-none [] e = refl
-int-none (b ∷ s) e = absurd (omega arith)
-
 pub int-minus : (s : List ℕ) → (length s ≡ 0 → ⊥) → get_or s 0 0 ≡ ch "-" → integer s ≡ bounded true 9223372036854775808 (digits (drop 1 s))
 unfolding integer
 int-minus [] z e = absurd (z refl)
@@ -97,6 +133,16 @@ pub int-bare : (s : List ℕ) → (length s ≡ 0 → ⊥) → (get_or s 0 0 ≡
 unfolding integer
 int-bare [] z n = absurd (z refl)
 int-bare (b ∷ s) z n = rw (ne_eqb b (ch "-") n) (positive-bounded (digits (b ∷ s)))
+
+pub int-other : (s : List ℕ) → (get_or s 0 0 ≡ ch "-" → ⊥) → integer s ≡ bounded false 9223372036854775807 (digits s)
+unfolding integer bounded
+int-other [] n = rw (digits-none [] refl)
+int-other (b ∷ s) n = int-bare (b ∷ s) (λ e. omega arith) n
+
+pub int-empty : (s : List ℕ) → length s < 1 → integer s ≡ bounded false 9223372036854775807 (digits s)
+unfolding integer bounded
+int-empty [] n = rw (digits-none [] refl)
+int-empty (b ∷ s) n = absurd (omega arith)
 
 -- ---- digits that are written
 
@@ -133,6 +179,22 @@ decimal-twenty n = decimal-short 20 n
 pub length-one : (n : ℕ) → n < 10 → length (decimal_of 20 n) ≡ 1
 length-one n h = rw (decimal-one n h)
 
+-- a number between two powers of ten has a digit more than the lower one has zeros
+decimal_length : (k places n : ℕ) → k < places → 10 ^ k ≤ n → n < 10 * 10 ^ k → length (decimal_of places n) ≡ suc k
+unfolding decimal_of
+decimal_length k zero n p h m = absurd (omega arith)
+decimal_length zero (suc places) n p h m = rw (lt-ltb n 10 (omega arith))
+decimal_length (suc k) (suc places) n p h m =
+    rw (le-ltb n 10 (omega (arith, pow-suc 10 k, one-le-pow k 10 (omega arith)))) (simp length-append (omega (arith, decimal_length k places (n / 10) (omega arith) (omega (arith, pow-suc 10 k)) (omega (arith, pow-suc 10 k)))))
+
+-- 0 has a digit too, as 1 has
+pub decimal_count : (k n m : ℕ) → (n ≡ 0 → m ≡ 1) → (0 < n → m ≡ n) → k < 20 → 10 ^ k ≤ m → m < 10 * 10 ^ k → k + 1 ≡ length (decimal_of 20 n)
+decimal_count zero zero m z e p h l = omega (arith, length-one 0 (omega arith))
+decimal_count (suc k) zero m z e p h l = absurd (omega (arith, z refl, pow-suc 10 k, one-le-pow k 10 (omega arith)))
+decimal_count k (suc n) m z e p h l =
+    let f : m ≡ suc n = e (omega arith) in
+    omega (arith, decimal_length k 20 (suc n) p (omega arith) (omega arith))
+
 pub length_more : (n : ℕ) → 10 ≤ n → n < 2 ^ 64 → length (decimal_of 20 n) ≡ length (decimal_of 20 (n / 10)) + 1
 length_more n h k = ap length (decimal-more n h k) ∙ length-append (decimal_of 20 (n / 10)) ((48 + n % 10) ∷ [])
 
@@ -151,3 +213,5 @@ text-minus (suc n) = rw (ne_eqb (suc n) 0 (λ e. omega arith))
 pub text-bare : (n : ℕ) → int_text (signed false n) ≡ decimal_of 20 n
 unfolding int_text signed
 text-bare n = refl
+
+pub ruleset zeros = (zero_short, zero_is, zero_other)

@@ -11,6 +11,15 @@ abbrev pub int_of : Chance Integer → Option ℤ
 int_of (Some n) = some (signed n.negative n.magnitude)
 int_of None = none
 
+abbrev pub number_of : Chance ℕ → Option ℕ
+number_of (Some n) = some n
+number_of None = none
+
+-- a number of at most `limit`
+unfoldable pub at_most : ℕ → Option ℕ → Option ℕ
+at_most limit none = none
+at_most limit (some n) = if leb n limit then some n else none
+
 -- a magnitude of at most `limit`, with its sign
 unfoldable pub bounded : Bool → ℕ → Option ℕ → Option ℤ
 bounded negative limit none = none

@@ -1,85 +1,73 @@
-// Integers: decimal digits read and written.
+// Integers: decimal digits read and written. They are written into `out` from `at` on, since the writer, which keeps both, stands above.
 #![tactic(auto)]
 
-ghost use Rattle.std.specs.Prelude.{◌≡◌, ◌+◌, ◌≤◌, ◌<◌, ◌^◌, length, drop};
+ghost use Rattle.std.specs.Prelude.{◌≡◌, ◌+◌, ◌≤◌, length};
 ghost use Rattle.std.proofs.lemmas.List.Edits.{sets};
 ghost use Rattle.item.specs.Encode.{signed};
 ghost use Rattle.number.specs.Integers.{zero_first, digits, integer, decimal_of, int_text};
-ghost use Rattle.number.specs.Code.{int_of, bounded, minused};
+ghost use Rattle.number.specs.Code.{int_of, number_of, at_most, bounded, minused};
 
 use item::Integer;
 
-// Whether `from` and what is behind it are several bytes, of which the first is a zero.
-fn zero_first(t: &[u8], from: usize) -> bool
-    requires { from < length t.now }
-    ensures { result ≡ zero_first (drop from t.now) }
+// Whether a text is several bytes, of which the first is a zero.
+#[tactic(auto, using(crate::proofs::Laws::zeros))]
+fn zero_first(t: &[u8]) -> bool
+    ensures { result ≡ zero_first t.now }
 {
-    let are_several = t.len() - from >= 2;
-    are_several && t[from] == b'0'
+    matches!(t, [b'0', _, ..])
 }
 
-// The number that the digits from `from` on make, one or several of which the first is no zero, if it is at most `limit`.
-fn digits(t: &[u8], from: usize, negative: bool, limit: u64) -> Option<Integer>
-    requires in_range { from ≤ length t.now }
-    requires one_digit { 9 ≤ limit }
-    requires small { limit ≤ 2 ^ 63 }
-    ensures { int_of result ≡ bounded negative limit (digits (drop from t.now)) }
+// The number that digits make, one or several of which the first is no zero, if it is at most `limit`.
+fn digits(t: &[u8], limit: u64) -> Option<u64>
+    ensures { number_of result ≡ at_most limit (digits t.now) }
 {
-    if from == t.len() || zero_first(t, from) {
+    if t.is_empty() || zero_first(t) {
         return None;
     }
-    let mut magnitude: u64 = 0;
-    for &b in &t[from..] {
+    let mut number: u64 = 0;
+    for &b in t {
         if !b.is_ascii_digit() {
             return None;
         }
-        let d = u64::from(b - b'0');
-        if magnitude > (limit - d) / 10 {
-            return None;
-        }
-        magnitude = magnitude * 10 + d;
+        number = number.checked_mul(10)?.checked_add(u64::from(b - b'0'))?;
     }
+    if number <= limit { Some(number) } else { None }
+}
+
+// Whether a text has a minus, the digits behind it, and the most that they may make.
+fn sign_of(t: &[u8]) -> (bool, &[u8], u64)
+    ensures { integer t.now ≡ bounded result.0 result.2 (digits result.1.now) }
+{
+    match t {
+        [b'-', digits @ ..] => (true, digits, i64::MIN.unsigned_abs()),
+        _ => (false, t, i64::MAX.unsigned_abs()),
+    }
+}
+
+/// The integer that a text says by an optional minus and decimal digits, if it has 64 bits. A first zero before other digits makes it
+/// none, as does a plus; `-0` is one.
+#[tactic(auto, using(crate::proofs::Laws::none_signed, crate::proofs::Laws::some_signed))]
+pub fn integer(t: &[u8]) -> Option<Integer>
+    ensures { int_of result ≡ integer t.now }
+{
+    let (negative, number, limit) = sign_of(t);
+    let magnitude = digits(number, limit)?;
     Some(Integer {
         negative,
         magnitude,
     })
 }
 
-/// The integer that a text says by an optional minus and decimal digits, if it has 64 bits. A first zero before other digits makes it
-/// none, as does a plus; `-0` is one.
-pub fn integer(t: &[u8]) -> Option<Integer>
-    ensures { int_of result ≡ integer t.now }
-{
-    let first = t.first()?;
-    if *first == b'-' {
-        return digits(t, 1, true, 9223372036854775808);
-    }
-    digits(t, 0, false, 9223372036854775807)
-}
-
-// How many decimal digits a number has. This and `put_decimal` stay two short loops: a crate that prints integers would write into a buffer
-// of its own, and another copy would bring the digits to their place.
+// How many decimal digits a number has; 0 has one.
 fn decimal_len(n: u64) -> usize
     ensures length { result ≡ length (decimal_of 20 n) }
     ensures at_most { result ≤ 20 }
 {
-    let mut left = n;
-    let mut count = 1;
-    while left >= 10 {
-        left /= 10;
-        count += 1;
-    }
-    count
+    n.max(1).ilog10() as usize + 1
 }
 
-fn digit(n: u64) -> u8
-    requires { n < 10 }
-    ensures { result ≡ 48 + n }
-{
-    48 + n as u8
-}
-
-// A number's decimal digits, from the last to the first.
+// A number's decimal digits, from the last to the first; by index, since what is written through an iterator from the end is not known
+// afterwards.
 fn put_decimal(out: &mut [u8], at: usize, n: u64)
     requires { at + length (decimal_of 20 n) ≤ length out.old }
     ensures { out.new ≡ sets out.old at (decimal_of 20 n) }
@@ -88,10 +76,10 @@ fn put_decimal(out: &mut [u8], at: usize, n: u64)
     let mut end = at + decimal_len(n);
     while left >= 10 {
         end -= 1;
-        out[end] = digit(left % 10);
+        out[end] = b'0' + (left % 10) as u8;
         left /= 10;
     }
-    out[at] = digit(left);
+    out[at] = b'0' + left as u8;
 }
 
 // Whether an integer's text has a minus: that of `-0` has none.

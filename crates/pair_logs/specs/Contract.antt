@@ -52,8 +52,8 @@ pub record Going (hammers sounds pairs₀ pairs hs₀ hs ss₀ ss : List ℕ) (i
 -- to the end of one log
 pub record Walks (hammers sounds : List ℕ) (old new : Lists) (w : Walked) : Type 0 where
   pub keeps : Keeps old new
-  pub going : Going hammers sounds old.pairs.now new.pairs.now old.lone_hammers.now new.lone_hammers.now old.lone_sounds.now new.lone_sounds.now w.hammer w.before_hammer w.sound w.before_sound w.pairs
-  pub ended : (length hammers ≤ w.hammer) ⊎ (length sounds ≤ w.sound)
+  pub going : Going hammers sounds old.pairs.now new.pairs.now old.lone_hammers.now new.lone_hammers.now old.lone_sounds.now new.lone_sounds.now w.hammers.from w.hammers.before w.sounds.from w.sounds.before w.pairs
+  pub ended : (length hammers ≤ w.hammers.from) ⊎ (length sounds ≤ w.sounds.from)
 
 -- a time of a log is below the one before it
 abbrev pub Falls : List ℕ → List ℕ → Refusal → Type 0

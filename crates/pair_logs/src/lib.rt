@@ -2,7 +2,7 @@
 // they have places and counted beyond that, so that one walk serves.
 #![tactic(auto)]
 
-ghost use Rattle.std.specs.Prelude.{◌≡◌, ◌≤◌, length, set, IsTrue, ◌↔◌, MatchResult};
+ghost use Rattle.std.specs.Prelude.{◌≡◌, ◌+◌, ◌≤◌, ◌<◌, length, set, IsTrue, ◌↔◌, MatchResult};
 ghost use Rattle.pair_logs.specs.PairLogs as definition;
 ghost use Rattle.pair_logs.specs.PairLogs.{pair_logs, output, pair_numbers, hammer_numbers, sound_numbers, answer_of, counts_of};
 ghost use Rattle.pair_logs.specs.Contract.{Turns, Below, Walks, Rests, Falls, FallsFrom, Places, Fit, AgreesAll, Refuses};
@@ -25,6 +25,14 @@ pub enum PairAnswer {
         lone_sounds: usize,
     },
     Refused(Refusal),
+}
+
+// The logs, neither with more times than one may have.
+#[derive(Clone, Copy)]
+struct Logs<'a> {
+    hammers: &'a [u32],
+    sounds: &'a [u32],
+    ghost short: { (length hammers.now ≤ 4096) × (length sounds.now ≤ 4096) },
 }
 
 // The lists that are lent.
@@ -63,13 +71,33 @@ enum Turn {
     LoneSound,
 }
 
-// The first unplaced of each log, the time before it, and the pairs so far.
+// What is not placed yet of a log: the position of its first time, and the time before that.
+#[derive(Clone, Copy)]
+struct Unplaced {
+    from: usize,
+    before: u32,
+}
+
+impl Unplaced {
+    const ALL: Unplaced = Unplaced { from: 0, before: 0 };
+
+    // Without its first time.
+    fn behind(self, time: u32) -> Unplaced
+        requires { self.from < 4096 }
+        ensures { result ≡ record { from = self.from + 1; before = time } }
+    {
+        Unplaced {
+            from: self.from + 1,
+            before: time,
+        }
+    }
+}
+
+// What is not placed of each log, and the pairs so far.
 #[derive(Clone, Copy)]
 struct Walked {
-    hammer: usize,
-    before_hammer: u32,
-    sound: usize,
-    before_sound: u32,
+    hammers: Unplaced,
+    sounds: Unplaced,
     pairs: usize,
 }
 
@@ -98,12 +126,12 @@ fn turn_of(before_hammer: u32, hammer: u32, before_sound: u32, sound: u32) -> Re
     })
 }
 
-// Stores a number if there is a place for it.
+// Stores a number if there is a place for it, by index, since what is written through `get_mut` is not known afterwards. `scenario` has such a
+// function; below both lies no crate of lists of numbers, and one for it alone would be no plainer.
 #[tactic(auto, using(std::proofs::lemmas::List::set_past))]
 fn store(list: &mut [u32], i: usize, n: u32)
     ensures { list.new ≡ set list.old i n }
 {
-    // By index, since what is written through `get_mut` is not known afterwards.
     if i < list.len() {
         list[i] = n;
     }
@@ -111,73 +139,62 @@ fn store(list: &mut [u32], i: usize, n: u32)
 
 // From the first of each log to the end of one, each turn places one time or two. A `while`, as the two places go on separately.
 #[tactic(auto, using(crate::proofs::Turns::turns))]
-fn walk(hammers: &[u32], sounds: &[u32], lists: &mut Lists<'_>) -> Result<Walked, Refusal>
-    requires hammers { length hammers.now ≤ 4096 }
-    requires sounds { length sounds.now ≤ 4096 }
+fn walk(logs: Logs<'_>, lists: &mut Lists<'_>) -> Result<Walked, Refusal>
     ensures { MatchResult result
-        (Walks hammers.now sounds.now lists.old lists.new)
-        (Falls hammers.now sounds.now) }
+        (Walks logs.entry.hammers.now logs.entry.sounds.now lists.old lists.new)
+        (Falls logs.entry.hammers.now logs.entry.sounds.now) }
 {
-    let mut i = 0;
-    let mut before_hammer = 0;
-    let mut j = 0;
-    let mut before_sound = 0;
-    let mut paired = 0;
-    while i < hammers.len() && j < sounds.len() {
-        let hammer = hammers[i];
-        let sound = sounds[j];
-        match turn_of(before_hammer, hammer, before_sound, sound)? {
+    let mut hammers = Unplaced::ALL;
+    let mut sounds = Unplaced::ALL;
+    let mut pairs = 0;
+    while hammers.from < logs.hammers.len() && sounds.from < logs.sounds.len() {
+        let hammer = logs.hammers[hammers.from];
+        let sound = logs.sounds[sounds.from];
+        match turn_of(hammers.before, hammer, sounds.before, sound)? {
             Turn::Pair => {
-                store(lists.pairs, 2 * paired, i as u32);
-                store(lists.pairs, 2 * paired + 1, j as u32);
-                paired += 1;
-                before_hammer = hammer;
-                i += 1;
-                before_sound = sound;
-                j += 1;
+                store(lists.pairs, 2 * pairs, hammers.from as u32);
+                store(lists.pairs, 2 * pairs + 1, sounds.from as u32);
+                pairs += 1;
+                hammers = hammers.behind(hammer);
+                sounds = sounds.behind(sound);
             }
             Turn::LoneHammer => {
-                store(lists.lone_hammers, i - paired, i as u32);
-                before_hammer = hammer;
-                i += 1;
+                store(
+                    lists.lone_hammers,
+                    hammers.from - pairs,
+                    hammers.from as u32,
+                );
+                hammers = hammers.behind(hammer);
             }
             Turn::LoneSound => {
-                store(lists.lone_sounds, j - paired, j as u32);
-                before_sound = sound;
-                j += 1;
+                store(lists.lone_sounds, sounds.from - pairs, sounds.from as u32);
+                sounds = sounds.behind(sound);
             }
         }
     }
     Ok(Walked {
-        hammer: i,
-        before_hammer,
-        sound: j,
-        before_sound,
-        pairs: paired,
+        hammers,
+        sounds,
+        pairs,
     })
 }
 
 // What is left of a log, all alone, written behind the lone ones so far, which are those before it that are not in pairs. Refused where a
 // time is below the one before it.
 #[tactic(auto, using(crate::proofs::Turns::rests))]
-fn rest(
-    times: &[u32],
-    from: usize,
-    before: u32,
-    paired: usize,
-    list: &mut [u32],
-) -> Result<(), Refusal>
-    requires { (paired ≤ from) × (from ≤ length times.now) × (length times.now ≤ 4096) }
-    ensures { MatchResult result (λ _. Rests times.now from before paired list.old list.new)
-        (FallsFrom times.now from before) }
+fn rest(times: &[u32], left: Unplaced, pairs: usize, list: &mut [u32]) -> Result<(), Refusal>
+    requires { (pairs ≤ left.from) × (left.from ≤ length times.now) × (length times.now ≤ 4096) }
+    ensures { MatchResult result (λ _. Rests times.now left.from left.before pairs list.old list.new)
+        (FallsFrom times.now left.from left.before) }
 {
-    let mut last = before;
-    for i in from..times.len() {
+    let mut last = left.before;
+    // By position, which is what is written.
+    for i in left.from..times.len() {
         let time = times[i];
         if time < last {
             return Err(Refusal::LogFalls);
         }
-        store(list, i - paired, i as u32);
+        store(list, i - pairs, i as u32);
         last = time;
     }
     Ok(())
@@ -185,33 +202,19 @@ fn rest(
 
 // All times of both logs: the walk, and what is left of the log that it did not come to the end of.
 #[tactic(auto, using(crate::proofs::Turns::all_placed))]
-fn place(hammers: &[u32], sounds: &[u32], lists: &mut Lists<'_>) -> Result<Counts, Refusal>
-    requires hammers { length hammers.now ≤ 4096 }
-    requires sounds { length sounds.now ≤ 4096 }
+fn place(logs: Logs<'_>, lists: &mut Lists<'_>) -> Result<Counts, Refusal>
     ensures { MatchResult result
-        (Places hammers.now sounds.now lists.old lists.new)
-        (Falls hammers.now sounds.now) }
+        (Places logs.entry.hammers.now logs.entry.sounds.now lists.old lists.new)
+        (Falls logs.entry.hammers.now logs.entry.sounds.now) }
 {
-    let walked = walk(hammers, sounds, lists)?;
-    let paired = walked.pairs;
-    rest(
-        hammers,
-        walked.hammer,
-        walked.before_hammer,
-        paired,
-        lists.lone_hammers,
-    )?;
-    rest(
-        sounds,
-        walked.sound,
-        walked.before_sound,
-        paired,
-        lists.lone_sounds,
-    )?;
+    let walked = walk(logs, lists)?;
+    let pairs = walked.pairs;
+    rest(logs.hammers, walked.hammers, pairs, lists.lone_hammers)?;
+    rest(logs.sounds, walked.sounds, pairs, lists.lone_sounds)?;
     Ok(Counts {
-        pairs: paired,
-        lone_hammers: hammers.len() - paired,
-        lone_sounds: sounds.len() - paired,
+        pairs,
+        lone_hammers: logs.hammers.len() - pairs,
+        lone_sounds: logs.sounds.len() - pairs,
     })
 }
 
@@ -225,7 +228,7 @@ fn pair(hammers: &[u32], sounds: &[u32], lists: &mut Lists<'_>) -> Result<Counts
     if hammers.len() > MOST_TIMES || sounds.len() > MOST_TIMES {
         return Err(Refusal::LogTooLong);
     }
-    let counts = place(hammers, sounds, lists)?;
+    let counts = place(Logs { hammers, sounds }, lists)?;
     if !lists.hold(counts) {
         return Err(Refusal::ListTooShort);
     }

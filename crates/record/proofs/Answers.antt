@@ -1,5 +1,8 @@
 -- The answers of the check and of the lookups, case by case. Assumes nothing.
-use Rattle.std.proofs.Common.{◌≡◌, refl, sym, ap, ◌∙◌, ℕ, suc, ◌+◌, ◌≤◌, ◌<◌, arith, List, map, length, take, get_or}
+use Rattle.std.specs.Prelude.{Some, cond, ◌&&◌}
+use Rattle.std.specs.Ordering.{nat_cmp, partial_le, partial_lt}
+use Rattle.std.proofs.lemmas.Bool.Decides.{nat_tests}
+use Rattle.std.proofs.Common.{Ordering, ◌≡◌, refl, sym, ap, ◌∙◌, ℕ, zero, Bool, false, suc, ◌+◌, ◌≤◌, ◌<◌, arith, List, map, length, take, get_or}
 use Rattle.std.proofs.Math.Option.{Option, none, some}
 use Rattle.refusal.specs.Base.{Answer, good, refused, ◌>>=◌, maybe, given}
 use Rattle.meaning.specs.Meaning.{Meaning}
@@ -10,7 +13,7 @@ use Rattle.record.specs.Jobs.{Found, nothing, part, opened, check_record, part_a
 use Rattle.record.specs.Contract.{span_of, record_steps}
 use Rattle.entries.specs.Entries.{nth_item}
 use Rattle.item.proofs.Exact.{bytes_of}
-use Rattle.record.proofs.Lookups.{Opened, opening, field_is, step_is, numbered-in, numbered-out, field_found, step-found, length-steps}
+use Rattle.record.proofs.Lookups.{Opened, opening, field-zero, step-zero, field_is, step_is, numbered-in, numbered-out, field_found, step-found, length-steps}
 use Rattle.entries.specs.declared.Span.{Span}
 use Rattle.std.specs.Prelude.{Option as StdOption}
 
@@ -24,7 +27,23 @@ checked b = go (meaning_in b)
     go none = refl
     go (some m) = refl
 
+pub counted : (b : List ℕ) (n : ℕ) → some n ≡ record_steps b → good n ≡ check_record b
+unfolding given
+counted b n e = ap (λ (o : Option ℕ). given o 40 0 0) e ∙ checked b
+
+pub uncounted : (b : List ℕ) → none ≡ record_steps b → refused 40 0 0 ≡ check_record b
+unfolding given
+uncounted b e = ap (λ (o : Option ℕ). given o 40 0 0) e ∙ checked b
+
 -- ---- the lookups
+
+-- what is no number from one to some number
+abbrev compared : ℕ → ℕ → StdOption Ordering
+compared x y = Some (nat_cmp x y)
+
+pub outside : {start end n place : ℕ} {exhausted b : Bool} → start ≡ 1 → end ≡ n → exhausted ≡ false
+    → b ≡ (partial_le compared start place && cond exhausted (partial_lt compared place end) (partial_le compared place end)) → b ≡ false → (i : ℕ) → place ≡ suc i → n ≤ i
+outside s e x v f i p = grind (arith, nat_tests)
 
 pub opened_as : (b : List ℕ) {n : ℕ} → ((i : ℕ) → get_or b i 0 < 256) → good n ≡ check_record b → Opened b n
 opened_as b {n} small e = opening b (bytes_of b small) n e
@@ -36,6 +55,11 @@ module _ {b : List ℕ} {n : ℕ} (w : Opened b n) where
   unfolding fields
   field_out place i e h = sym (field_is w place ∙ numbered-out 6 (fields w.meaning) place i e h)
 
+  -- at a place that is none of them
+  pub field_outside : (place : ℕ) → ((i : ℕ) → place ≡ suc i → 8 ≤ i) → refused 53 0 0 ≡ job.field b place
+  field_outside zero h = field-zero w zero refl
+  field_outside (suc i) h = field_out (suc i) i refl (h i refl)
+
   pub field_in : (place i : ℕ) → place ≡ suc i → i < 8 → span_of (nth_item b 6 i) ≡ job.field b place
   unfolding fields
   field_in place i e h = field_found b w.meaning w.record_is i h ∙ sym (field_is w place ∙ numbered-in 6 (fields w.meaning) place i e h)
@@ -44,6 +68,10 @@ module _ {b : List ℕ} {n : ℕ} (w : Opened b n) where
   step-out number i e h =
       let c : length (map step_item w.meaning.steps) ≤ i = omega (arith, length-steps w.meaning.steps, w.count) in
       sym (step_is w number ∙ numbered-out (steps_start w.meaning) (map step_item w.meaning.steps) number i e c)
+
+  pub step_outside : (number : ℕ) → ((i : ℕ) → number ≡ suc i → n ≤ i) → refused 53 0 0 ≡ job.step b number
+  step_outside zero h = step-zero w zero refl
+  step_outside (suc i) h = step-out (suc i) i refl (h i refl)
 
   -- the last field is always found
   last-is : span_of (nth_item b 6 7) ≡ good (part_at 6 (fields w.meaning) 7)

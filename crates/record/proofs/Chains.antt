@@ -1,6 +1,6 @@
 -- Items by their contents, one behind another, and what the last of some fields decides. Assumes nothing.
-use Rattle.std.proofs.Common.{◌≡◌, refl, sym, ap, ◌∙◌, ℕ, ◌+◌, ◌-◌, ◌≤◌, ◌<◌, arith, List, true, false, length, take, drop, le-leb}
-use Rattle.std.proofs.lemmas.Bool.{lt-leb}
+use Rattle.std.proofs.Common.{◌≡◌, refl, sym, ap, ◌∙◌, ℕ, ◌+◌, ◌-◌, ◌≤◌, ◌<◌, arith, List, true, false, eqb, eqb-true, length, take, drop, le-leb}
+use Rattle.std.proofs.lemmas.Bool.{eqb-false, lt-leb}
 use Rattle.std.proofs.Math.Option.{Option, none, some}
 use Rattle.refusal.specs.Base.{maybe, limit}
 use Rattle.item.specs.Tree.{Items}
@@ -109,14 +109,14 @@ module _ (s : List ℕ) {a b c d e : ℕ} (r₁ : ReadAt (field_of as_text 0) s 
 -- ---- the one item
 
 module _ (b : List ℕ) where
-  pub too-long : limit < length b → none ≡ record_steps b
+  pub too_long : limit < length b → none ≡ record_steps b
   unfolding record_steps maybe meaning_in
-  too-long h = rw (lt-leb (length b) limit h)
+  too_long h = rw (lt-leb (length b) limit h)
 
   module _ (h : length b ≤ limit) where
-    pub no-record : content 16 b ≡ none → none ≡ record_steps b
+    pub no_record : content 16 b ≡ none → none ≡ record_steps b
     unfolding record_steps maybe meaning_in ◌>>=◌
-    no-record e = rw (le-leb (length b) limit h, no_item 16 fields_in b e)
+    no_record e = rw (le-leb (length b) limit h, no_item 16 fields_in b e)
 
     module _ {e : ℕ} (w : ItemAt 16 b 0 e) where
       -- by what the content is
@@ -125,18 +125,18 @@ module _ (b : List ℕ) where
       content-cases none p = rw (le-leb (length b) limit h, no-content 16 fields_in b (in_part b 0 e) (drop e b) w.is p)
       content-cases (some m) p = rw (le-leb (length b) limit h, in_item_lem 16 fields_in b (in_part b 0 e) (drop e b) w.is m p)
 
-      pub record-behind : (e ≡ length b → ⊥) → none ≡ record_steps b
+      pub record_behind : false ≡ eqb e (length b) → none ≡ record_steps b
       unfolding record_steps maybe ◌>>=◌
-      record-behind n = sym (rw (content-cases _ refl) (go (fields_in (in_part b 0 e))))
+      record_behind n = sym (rw (content-cases _ refl) (go (fields_in (in_part b 0 e))))
         where
           go : (o : Option Meaning) → maybe (o >>= λ m. nothing m (drop e b)) none (λ m. some (length m.steps)) ≡ none
           go none = refl
-          go (some m) = rw (left_over m b e w.fits n)
+          go (some m) = rw (left_over m b e w.fits (eqb-false e (length b) (sym n)))
 
-      pub record-last : e ≡ length b → meaning_steps (in_part b 0 e) ≡ record_steps b
+      pub record_last : true ≡ eqb e (length b) → {n : Option ℕ} {c : List ℕ} → n ≡ meaning_steps c → c ≡ take (e - 6) (drop 6 b) → n ≡ record_steps b
       unfolding record_steps meaning_steps maybe ◌>>=◌
-      record-last n = sym (rw (content-cases _ refl) (go (fields_in (in_part b 0 e))))
+      record_last n p q = p ∙ ap meaning_steps q ∙ sym (rw (content-cases _ refl) (go (fields_in (in_part b 0 e))))
         where
           go : (o : Option Meaning) → maybe (o >>= λ m. nothing m (drop e b)) none (λ m. some (length m.steps)) ≡ maybe o none (λ m. some (length m.steps))
           go none = refl
-          go (some m) = rw (ends m b e n)
+          go (some m) = rw (ends m b e (eqb-true e (length b) (sym n)))

@@ -4,38 +4,17 @@ use Rattle.std.proofs.lemmas.Bool.{eqb-false, lt-leb}
 use Rattle.std.proofs.Math.Option.{none}
 use Rattle.item.specs.Decode.{◌>>=◌, header}
 use Rattle.item.specs.Places.{header_at}
-use Rattle.std.specs.Prelude.{Result, Ok, Err, Option as StdOption, None, Some, slice_range, ◌⊎◌, unwrap_or}
-use Rattle.std.proofs.Common.{Bor, MatchOption, inl, inr, ◌≡◌, refl, sym, ap, ◌∙◌, ℕ, ◌+◌, ◌-◌, ◌≤◌, ◌<◌, arith, List, [], Bool, true, false, ◌&&◌, eqb, leb, length, take, drop, eq-eqb, ne_eqb, eqb-true, le-leb}
-use Rattle.std.specs.Result.{result_ok}
+use Rattle.std.specs.Prelude.{Ok, Option as StdOption, None, Some, slice_range, ◌⊎◌, unwrap_or}
+use Rattle.std.proofs.Common.{Bor, MatchOption, inl, inr, ◌≡◌, refl, sym, ◌∙◌, ℕ, ◌+◌, ◌-◌, ◌≤◌, ◌<◌, arith, List, [], Bool, true, false, ◌&&◌, eqb, leb, length, take, drop, eq-eqb, ne_eqb, eqb-true, le-leb}
 use Rattle.std.specs.Bool.{then_some}
 use Rattle.item.specs.declared.Item.{Item}
-use Rattle.item.specs.declared.Broken.{Broken}
-use Rattle.item.proofs.Headers.{spans, header-item, no_header}
+use Rattle.item.proofs.Headers.{spans, header-item}
+pub use Rattle.value.proofs.Headers.{is-ok, is-err, there}
 use Rattle.record.specs.Read.{content}
 use Rattle.record.specs.Jobs.{part_of}
 use Rattle.record.specs.Contract.{ItemAt, ItemEnds}
 
 -- ---- the item at a place
-
-pub is-ok : {r : Result Item Broken} {item : Item} → Some item ≡ result_ok r → r ≡ Ok item
-is-ok {r} {item} e = go r e
-  where
-    go : (r : Result Item Broken) → Some item ≡ result_ok r → r ≡ Ok item
-    go (Ok other) e = let same : other ≡ item = cc in ap Ok same
-    go (Err broken) e = let z : ◌≡◌ {A = ℕ} 0 1 = cc in absurd (omega arith)
-
-pub is-err : {r : Result Item Broken} → None ≡ result_ok r → (broken : Broken) × (r ≡ Err broken)
-is-err {r} e = go r e
-  where
-    go : (r : Result Item Broken) → None ≡ result_ok r → (broken : Broken) × (r ≡ Err broken)
-    go (Ok item) e = let z : ◌≡◌ {A = ℕ} 0 1 = cc in absurd (omega arith)
-    go (Err broken) e = (broken, refl)
-
-pub there : (s : List ℕ) (at : ℕ) {item : Item} → Some item ≡ result_ok (header_at s at) → Ok item ≡ header_at s at
-there s at e = sym (is-ok e)
-
-pub nowhere : (s : List ℕ) (at : ℕ) → None ≡ result_ok (header_at s at) → header (drop at s) ≡ none
-nowhere s at e = no_header s at (sym (is-err e).1)
 
 pub no-content-at : (k : ℕ) (s : List ℕ) (at : ℕ) → header (drop at s) ≡ none → content k (drop at s) ≡ none
 unfolding content ◌>>=◌
@@ -60,6 +39,9 @@ module _ (k : ℕ) (s : List ℕ) (at : ℕ) {item : Item} (h : Ok item ≡ head
   item_ends true e = content-here (eqb-true item.kind k (sym e))
   item_ends false e = content-other (eqb-false item.kind k (sym e))
 
+pub no_item_ends : (k : ℕ) (s : List ℕ) (at : ℕ) → header (drop at s) ≡ none → ItemEnds k s at None
+no_item_ends k s at h = no-content-at k s at h
+
 -- ---- a part
 
 module _ (b : List ℕ) (start end : ℕ) where
@@ -80,9 +62,9 @@ module _ (b : List ℕ) (start end : ℕ) where
   part-inside h k = rw (le-leb start end h, le-leb end (length b) k)
 
   -- what `get` gives, or the empty part
-  pub part-got : (o : StdOption (Bor (List ℕ))) (other : Bor (List ℕ)) → other.now ≡ []
+  pub part_got : (o : StdOption (Bor (List ℕ))) (other : Bor (List ℕ)) → other.now ≡ []
       → MatchOption o ((end < start) ⊎ (length b < end)) (λ x. (start ≤ end) × (end ≤ length b) × (x.now ≡ slice_range b start end) × (length x.now + start ≡ end))
       → (unwrap_or o other).now ≡ part_of b start end
-  part-got None other e (inl h) = e ∙ sym (part_turned h)
-  part-got None other e (inr h) = e ∙ sym (part-past h)
-  part-got (Some x) other e m = m.2 ∙ sym (part-inside m.0 m.1)
+  part_got None other e (inl h) = e ∙ sym (part_turned h)
+  part_got None other e (inr h) = e ∙ sym (part-past h)
+  part_got (Some x) other e m = m.2 ∙ sym (part-inside m.0 m.1)

@@ -4,8 +4,6 @@ use Rattle.std.proofs.lemmas.Bool.{eqb-false}
 use Rattle.std.proofs.Math.Option.{Option, none, some}
 use Rattle.refusal.specs.Base.{maybe}
 use Rattle.item.specs.Decode.{◌>>=◌, Decoder, nothing}
-use Rattle.std.specs.Bool.{then_some}
-use Rattle.std.specs.Option.{is_some as is_there}
 use Rattle.record.specs.Read.{many, all}
 use Rattle.record.specs.Contract.{is_some, counted}
 
@@ -77,10 +75,10 @@ module _ {A : Type 0} (a : A) (s : List ℕ) (at : ℕ) where
       go [] e = absurd (n (omega (arith, length-drop at s, ap length e)))
       go (b ∷ r) e = unfold nothing in refl
 
-  pub ended : at ≤ length s → is_there (then_some (eqb at (length s)) (tt {0})) ≡ is_some (nothing a (drop at s))
+  pub ended : at ≤ length s → eqb at (length s) ≡ is_some (nothing a (drop at s))
   unfolding is_some maybe
   ended h = go (eqb at (length s)) refl
     where
-      go : (t : Bool) → eqb at (length s) ≡ t → is_there (then_some t (tt {0})) ≡ is_some (nothing a (drop at s))
+      go : (t : Bool) → eqb at (length s) ≡ t → t ≡ is_some (nothing a (drop at s))
       go true e = rw (ends (eqb-true at (length s) e))
       go false e = rw (left_over h (eqb-false at (length s) e))

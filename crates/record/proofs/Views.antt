@@ -1,6 +1,6 @@
 -- Fields by the kinds of their items: what the code tests of a header, the definition tests of a tree. Assumes nothing.
 use Rattle.std.specs.Prelude.{if◌then◌else◌}
-use Rattle.std.proofs.Common.{◌≡◌, refl, sym, ap, ◌∙◌, ℕ, ◌+◌, ◌-◌, arith, List, [], ◌∷◌, ◌++◌, append_assoc, Bool, true, false, ◌&&◌, eqb, length, take, drop, length-drop, length-append, take_at, drop_at, drop-drop, eqb-true}
+use Rattle.std.proofs.Common.{◌≡◌, refl, sym, ap, ◌∙◌, ℕ, ◌+◌, ◌-◌, arith, List, [], ◌∷◌, ◌++◌, append_assoc, Bool, true, false, not, ◌&&◌, eqb, length, take, drop, length-drop, length-append, take_at, drop_at, drop-drop, eqb-true}
 use Rattle.std.proofs.Math.Option.{Option, none, some, some-injective, none-ne-some}
 use Rattle.refusal.specs.Base.{maybe, one_of}
 use Rattle.refusal.proofs.Tools.{chosen}
@@ -22,7 +22,7 @@ use Rattle.item.proofs.Exact.{got, none≢, and_left, and_right, nothing-inv, by
 use Rattle.utf8.specs.Utf8.{is_utf8}
 use Rattle.meaning.specs.Sound.{sound}
 use Rattle.value.specs.Tree.{tree, inside}
-use Rattle.value.proofs.Contents.{decode-node}
+use Rattle.value.proofs.Contents.{decode-node, no_header}
 use Rattle.value.proofs.Invariants.{taken}
 use Rattle.value.specs.Walks.{ReadAt, Walks}
 use Rattle.meaning.specs.Meaning.{step_fields, built_in_steps}
@@ -69,24 +69,28 @@ module _ {A : Type 0} (view : Yaml → Option A) (l : ℕ) (bs : List ℕ) where
 abbrev pub takes : List Kind → ℕ → Bool
 takes kinds k = list_any (λ kind. eqb k (number_of kind)) kinds
 
-module _ (kinds : List Kind) (l : ℕ) (s : List ℕ) (at k : ℕ) (c r : List ℕ) (e : header (drop at s) ≡ some (k, c, r)) where
-  pub kind_taken : takes kinds k ≡ true → (w : StdOption ℕ) → Walks (tree l) s at w → Walks (field_of (of_kinds kinds) l) s at w
-  unfolding of_kinds ◌>>=◌
-  kind_taken h (Some to) w = record {
-    value = w.value;
-    is = field_of_lem (of_kinds kinds) l (drop at s) (w.value, drop to s) w.is ∙ rw (tree-kind l (drop at s) k c r _ e w.is, h);
-    forward = w.forward;
-    fits = w.fits;
-  }
-  kind_taken h None w = no_field (of_kinds kinds) l (drop at s) w
+module _ (kinds : List Kind) (l : ℕ) (s : List ℕ) (at : ℕ) where
+  pub no_walks : header (drop at s) ≡ none → Walks (field_of (of_kinds kinds) l) s at None
+  no_walks h = no_field (of_kinds kinds) l (drop at s) (no_header l (drop at s) h)
 
-  pub other_kind : takes kinds k ≡ false → field_of (of_kinds kinds) l (drop at s) ≡ none
-  unfolding of_kinds ◌>>=◌
-  other_kind h = go (tree l (drop at s)) refl
-    where
-      go : (o : Option (Yaml × List ℕ)) → tree l (drop at s) ≡ o → field_of (of_kinds kinds) l (drop at s) ≡ none
-      go none p = no_field (of_kinds kinds) l (drop at s) p
-      go (some x) p = field_of_lem (of_kinds kinds) l (drop at s) x p ∙ rw (tree-kind l (drop at s) k c r x e p, h)
+  module _ {item : Item} (h : Ok item ≡ header_at s at) {b : Bool} (e : b ≡ takes kinds item.kind) where
+    pub among_walks : b ≡ true → (w : StdOption ℕ) → Walks (tree l) s at w → Walks (field_of (of_kinds kinds) l) s at w
+    unfolding of_kinds ◌>>=◌
+    among_walks t (Some to) w = record {
+      value = w.value;
+      is = field_of_lem (of_kinds kinds) l (drop at s) (w.value, drop to s) w.is ∙ rw (tree-kind l (drop at s) item.kind _ _ _ (header-item s at h) w.is, sym e ∙ t);
+      forward = w.forward;
+      fits = w.fits;
+    }
+    among_walks t None w = no_field (of_kinds kinds) l (drop at s) w
+
+    pub other_walks : b ≡ false → Walks (field_of (of_kinds kinds) l) s at None
+    unfolding of_kinds ◌>>=◌
+    other_walks t = go (tree l (drop at s)) refl
+      where
+        go : (o : Option (Yaml × List ℕ)) → tree l (drop at s) ≡ o → field_of (of_kinds kinds) l (drop at s) ≡ none
+        go none p = no_field (of_kinds kinds) l (drop at s) p
+        go (some x) p = field_of_lem (of_kinds kinds) l (drop at s) x p ∙ rw (tree-kind l (drop at s) item.kind _ _ x (header-item s at h) p, sym e ∙ t)
 
 -- ---- a field that holds just the trees of some kinds
 
@@ -181,6 +185,22 @@ expect-tests key h (str s) = refl
 expect-tests key h (seq ys) = refl
 expect-tests key h (dict es) = rw h
 
+-- what is tested of the kind is tested of the tree
+pub optional_walks : (s : List ℕ) (at : ℕ) (w : StdOption ℕ) → Walks (field_of (of_kinds (Null ∷ Str ∷ [])) 0) s at w → Walks (field_of as_optional 0) s at w
+optional_walks s at w h = viewed as_optional _ optional-tests 0 s at w h
+
+pub flag_walks : (s : List ℕ) (at : ℕ) (w : StdOption ℕ) → Walks (field_of (of_kinds (kinds.Bool ∷ [])) 0) s at w → Walks (field_of as_flag 0) s at w
+flag_walks s at w h = viewed as_flag _ flag-tests 0 s at w h
+
+pub items_walk : (s : List ℕ) (at : ℕ) (w : StdOption ℕ) → Walks (field_of (of_kinds (Seq ∷ [])) 31) s at w → Walks (field_of as_items 31) s at w
+items_walk s at w h = viewed as_items _ items-tests 31 s at w h
+
+pub built_in_walks : (key s : List ℕ) (at : ℕ) {b : Bool} → b ≡ one_of key built_in_steps → b ≡ true → (w : StdOption ℕ) → Walks (field_of (of_kinds (Null ∷ [])) 29) s at w → Walks (field_of (as_expect key) 29) s at w
+built_in_walks key s at e t w h = viewed (as_expect key) _ (built-in-tests key (sym e ∙ t)) 29 s at w h
+
+pub expect_walks : (key s : List ℕ) (at : ℕ) {b : Bool} → b ≡ one_of key built_in_steps → b ≡ false → (w : StdOption ℕ) → Walks (field_of (of_kinds (Null ∷ Map ∷ [])) 29) s at w → Walks (field_of (as_expect key) 29) s at w
+expect_walks key s at e t w h = viewed (as_expect key) _ (expect-tests key (sym e ∙ t)) 29 s at w h
+
 pub tree-walks : (l : ℕ) (s : List ℕ) (at : ℕ) (w : StdOption ℕ) → Walks (tree l) s at w → Walks (field_of some l) s at w
 unfolding ◌>>=◌
 tree-walks l s at (Some to) h = record { value = h.value; is = field_of_lem some l (drop at s) (h.value, drop to s) h.is; forward = h.forward; fits = h.fits }
@@ -208,11 +228,14 @@ module _ (s : List ℕ) (at : ℕ) {item : Item} (h : Ok item ≡ header_at s at
     where
       go : (t : Bool) → eqb item.kind 3 ≡ t → t && is_utf8 inner ≡ false → field_of as_text 0 (drop at s) ≡ none
       go true k u = rw (text-kind (eqb-true item.kind 3 k), u)
-      go false k u = viewed as_text (Str ∷ []) text-tests 0 s at None (other_kind (Str ∷ []) 0 s at item.kind inner (drop item.to s) (header-item s at h) (rw k))
+      go false k u = viewed as_text (Str ∷ []) text-tests 0 s at None (other_walks (Str ∷ []) 0 s at h {b = false} (rw k) refl)
 
   pub text_ends : (b : Bool) → b ≡ (eqb item.kind 3 && is_utf8 inner) → Walks (field_of as_text 0) s at (then_some b item.to)
   text_ends true e = text-here (sym e)
   text_ends false e = no-text (sym e)
+
+pub no_text_ends : (s : List ℕ) (at : ℕ) → header (drop at s) ≡ none → Walks (field_of as_text 0) s at None
+no_text_ends s at h = no_field as_text 0 (drop at s) (no_header 0 (drop at s) h)
 
 -- ---- a command
 
@@ -268,6 +291,16 @@ text-part s at to b w =
     let behind : drop (at + 6) s ≡ k ++ drop to s =
     sym (drop-drop 6 at s) ∙ ap (drop 6) (e ∙ append_assoc (head 3 (length k)) k (drop to s)) ∙ drop_at (head 3 (length k)) (k ++ drop to s) 6 (head-length 3 (length k)) in
     rw (m, behind) (take_at k (drop to s) (length k) refl)
+
+-- a text is a command unless it is a field's name
+pub command_ends : (s : List ℕ) (at to : ℕ) → Bytes s → ReadAt (field_of as_text 0) s at to → (b : Bool) → b ≡ one_of (take (to - (at + 6)) (drop (at + 6) s)) step_fields → Walks (field_of as_command 0) s at (then_some (not b) to)
+command_ends s at to bytes w true e = no-command 0 (drop at s) w.value (drop to s) w.is (ap (λ (k : List ℕ). one_of k step_fields) (sym (text-part s at to bytes w)) ∙ sym e)
+command_ends s at to bytes w false e = record {
+  value = w.value;
+  is = command 0 (drop at s) w.value (drop to s) w.is (ap (λ (k : List ℕ). one_of k step_fields) (sym (text-part s at to bytes w)) ∙ sym e);
+  forward = w.forward;
+  fits = w.fits;
+}
 
 pub command-part : (s : List ℕ) (at to : ℕ) → Bytes s → (w : ReadAt (field_of as_command 0) s at to) → w.value ≡ take (to - (at + 6)) (drop (at + 6) s)
 command-part s at to b w =

@@ -2,12 +2,11 @@
 // every job takes any bytes, checks them itself and writes nothing.
 #![tactic(auto)]
 
-ghost use Rattle.std.specs.Prelude.{◌≡◌, ◌-◌, ◌≤◌, ◌&&◌, eqb, length, take, drop, MatchResult};
+ghost use Rattle.std.specs.Prelude.{◌≡◌, eqb, length, drop, MatchResult};
 ghost use Rattle.std.specs.List.{list_any};
 ghost use Rattle.std.specs.Option.{is_some as is_there};
 ghost use Rattle.refusal.specs.Told.{refusal};
 ghost use Rattle.item.specs.Kinds.{number_of};
-ghost use Rattle.utf8.specs.Utf8.{is_utf8};
 ghost use Rattle.value.specs.Walks.{Walks};
 ghost use Rattle.record.specs.Read.{field_of, as_text, as_optional, as_flag, as_items, as_command, as_expect};
 ghost use Rattle.record.specs.Jobs as definition;
@@ -16,11 +15,10 @@ ghost use Rattle.record.specs.Contract.{of_kinds, ItemEnds, are_texts, are_defau
 ghost use Rattle.record.specs.Contract.{meaning_steps, record_steps, count_of, told_of, looked_of, StepsOf};
 
 use entries::{Span, nth_item};
-use item::{Encoded, Item, Items, Kind, LIMIT, Part, header_at};
+use item::{Encoded, HEADER, Item, Items, Kind, LIMIT, Part, header_at};
 use meaning::{is_built_in, is_step_field};
 use refusal::Refusal;
-use utf8::is_utf8;
-use value::value_at;
+use value::{is_text, value_at};
 
 /// What the check of a record answers.
 // An enum of its own, as each public job answers: what it tells has names, and the definitions name its cases.
@@ -46,26 +44,15 @@ pub struct StepItems<'a> {
     pub items: Part<'a>,
 }
 
-fn number_of(kind: Kind) -> usize
-    ensures { result ≡ number_of kind }
+// A function of its own, since with the test in line the goals of `value_of` did not close.
+fn is_among(item: Item, kinds: &[Kind]) -> bool
+    ensures { result ≡ list_any (λ kind. eqb item.kind (number_of kind)) kinds.now }
 {
-    kind as usize
-}
-
-fn is_among(kind: usize, kinds: &[Kind]) -> bool
-    ensures { result ≡ list_any (λ other. eqb kind (number_of other)) kinds.now }
-{
-    kinds.iter().any(|&other| kind == number_of(other))
-}
-
-fn is_text(s: &[u8], item: Item) -> bool
-    requires { (item.from ≤ item.to) × (item.to ≤ length s.now) }
-    ensures { result ≡ eqb item.kind 3 && is_utf8 (take (item.to - item.from) (drop item.from s.now)) }
-{
-    item.kind == Kind::Str as usize && is_utf8(&s[item.from..item.to])
+    kinds.iter().any(|&kind| item.is(kind))
 }
 
 /// Whether texts fill these bytes, one behind another.
+#[tactic(auto, using(item::proofs::Turns::placed))]
 pub fn are_texts(s: &[u8]) -> bool
     ensures { result ≡ are_texts s.now }
 {
@@ -80,15 +67,18 @@ pub fn are_texts(s: &[u8]) -> bool
     true
 }
 
-// The ends of what begins at `at`, where it is what is wanted.
+// The ends of what begins at `at`, where it is what is wanted. The bytes and the place stand apart, as each answer is the next place, and
+// what reads the fields names it after the one that begins there.
 
+#[tactic(auto, using(value::proofs::Headers::item_there, value::proofs::Headers::no_item_there, crate::proofs::Headers::item_ends, crate::proofs::Headers::no_item_ends))]
 fn item_of(s: &[u8], at: usize, kind: Kind) -> Option<usize>
     ensures { ItemEnds (number_of kind) s.now at result }
 {
     let item = header_at(s, at).ok()?;
-    (item.kind == number_of(kind)).then_some(item.to)
+    item.is(kind).then_some(item.to)
 }
 
+#[tactic(auto, using(value::proofs::Headers::item_there, value::proofs::Headers::no_item_there, crate::proofs::Views::text_ends, crate::proofs::Views::no_text_ends))]
 fn text_at(s: &[u8], at: usize) -> Option<usize>
     ensures { Walks (field_of as_text 0) s.now at result }
 {
@@ -96,38 +86,41 @@ fn text_at(s: &[u8], at: usize) -> Option<usize>
     is_text(s, item).then_some(item.to)
 }
 
+#[tactic(auto, using(crate::proofs::Views::no_text, crate::proofs::Views::command_ends, item::proofs::Exact::bytes_of))]
 fn command_at(s: &[u8], at: usize) -> Option<usize>
     ensures { Walks (field_of as_command 0) s.now at result }
 {
     let end = text_at(s, at)?;
-    if is_step_field(&s[at + 6..end]) {
-        return None;
-    }
-    Some(end)
+    let is_command = !is_step_field(&s[at + HEADER..end]);
+    is_command.then_some(end)
 }
 
+#[tactic(auto, using(value::proofs::Headers::no_item_there, crate::proofs::Views::no_walks))]
 fn value_of(s: Encoded<'_>, at: usize, kinds: &[Kind], levels: usize) -> Option<usize>
     ensures { Walks (field_of (of_kinds kinds.now) levels) s.entry.bytes.now at result }
 {
     let item = header_at(s.bytes, at).ok()?;
-    if !is_among(item.kind, kinds) {
+    if !is_among(item, kinds) {
         return None;
     }
     value_at(s, at, levels)
 }
 
+#[tactic(auto, using(crate::proofs::Views::optional_walks))]
 fn optional_at(s: Encoded<'_>, at: usize) -> Option<usize>
     ensures { Walks (field_of as_optional 0) s.entry.bytes.now at result }
 {
     value_of(s, at, &[Kind::Null, Kind::Str], 0)
 }
 
+#[tactic(auto, using(crate::proofs::Views::flag_walks))]
 fn flag_at(s: Encoded<'_>, at: usize) -> Option<usize>
     ensures { Walks (field_of as_flag 0) s.entry.bytes.now at result }
 {
     value_of(s, at, &[Kind::Bool], 0)
 }
 
+#[tactic(auto, using(crate::proofs::Views::items_walk))]
 fn items_at(s: Encoded<'_>, at: usize) -> Option<usize>
     ensures { Walks (field_of as_items 31) s.entry.bytes.now at result }
 {
@@ -135,6 +128,7 @@ fn items_at(s: Encoded<'_>, at: usize) -> Option<usize>
 }
 
 // No command that is built in has a mapping beside it.
+#[tactic(auto, using(crate::proofs::Views::built_in_walks, crate::proofs::Views::expect_walks))]
 fn expect_at(s: Encoded<'_>, at: usize, command: &[u8]) -> Option<usize>
     ensures { Walks (field_of (as_expect command.now) 29) s.entry.bytes.now at result }
 {
@@ -144,14 +138,22 @@ fn expect_at(s: Encoded<'_>, at: usize, command: &[u8]) -> Option<usize>
     value_of(s, at, &[Kind::Null, Kind::Map], 29)
 }
 
-// Where bytes are the content of an item, fields fill them; below each place is named after the field that begins there.
+// Where bytes are the content of an item, fields fill them; below each place is named after the field that begins there. A test answers
+// `Option<()>`, so that it is asked by `?` as each field is.
+
+// Whether the last field ends where the bytes do.
+fn filled(s: &[u8], end: usize) -> Option<()>
+    ensures { is_there result ≡ eqb end (length s.now) }
+{
+    (end == s.len()).then_some(())
+}
 
 fn defaults(s: Encoded<'_>) -> Option<()>
     ensures { is_there result ≡ are_defaults s.entry.bytes.now }
 {
     let wall_budget = optional_at(s, 0)?;
     let end = optional_at(s, wall_budget)?;
-    (end == s.bytes.len()).then_some(())
+    filled(s.bytes, end)
 }
 
 fn step_content(s: Encoded<'_>) -> Option<()>
@@ -163,17 +165,19 @@ fn step_content(s: Encoded<'_>) -> Option<()>
     let timeout = value_at(s, value, 29)?;
     let continues = optional_at(s, timeout)?;
     let expect = flag_at(s, continues)?;
-    let end = expect_at(s, expect, &s.all()[command + 6..value])?;
-    (end == s.bytes.len()).then_some(())
+    let end = expect_at(s, expect, &s.all()[command + HEADER..value])?;
+    filled(s.bytes, end)
 }
 
+#[tactic(auto, using(value::proofs::Headers::ok_item, item::proofs::Turns::placed))]
 fn steps(s: Encoded<'_>) -> Option<usize>
     ensures { count_of result ≡ steps_in s.entry.bytes.now }
 {
+    // Counted beside the walk, as a walk that is done does not tell how many it gave.
     let mut count = 0;
     for item in Items::new(s.bytes) {
         let item = item.ok()?;
-        if item.kind != Kind::Step as usize {
+        if !item.is(Kind::Step) {
             return None;
         }
         step_content(s.slice(item.from, item.to))?;
@@ -187,13 +191,11 @@ fn rest(s: Encoded<'_>, at: usize) -> Option<usize>
     ensures { count_of result ≡ rest_steps (drop at s.entry.bytes.now) }
 {
     let fail_on = item_of(s.bytes, at, Kind::Defaults)?;
-    defaults(s.slice(at + 6, fail_on))?;
+    defaults(s.slice(at + HEADER, fail_on))?;
     let list = items_at(s, fail_on)?;
     let end = item_of(s.bytes, list, Kind::Steps)?;
-    if end != s.bytes.len() {
-        return None;
-    }
-    steps(s.slice(list + 6, end))
+    filled(s.bytes, end)?;
+    steps(s.slice(list + HEADER, end))
 }
 
 // All eight fields, and how many steps the last has.
@@ -203,7 +205,7 @@ fn fields(s: Encoded<'_>) -> Option<usize>
     let description = text_at(s.bytes, 0)?;
     let tags = text_at(s.bytes, description)?;
     let image = item_of(s.bytes, tags, Kind::Seq)?;
-    if !are_texts(&s.bytes[tags + 6..image]) {
+    if !are_texts(&s.bytes[tags + HEADER..image]) {
         return None;
     }
     let setup = text_at(s.bytes, image)?;
@@ -211,6 +213,7 @@ fn fields(s: Encoded<'_>) -> Option<usize>
     rest(s, defaults)
 }
 
+#[tactic(auto, using(crate::proofs::Chains::too_long, crate::proofs::Chains::no_record, crate::proofs::Chains::record_behind, crate::proofs::Chains::record_last))]
 fn whole(record: &[u8]) -> Option<usize>
     ensures { count_of result ≡ record_steps «record».now }
 {
@@ -218,14 +221,13 @@ fn whole(record: &[u8]) -> Option<usize>
         return None;
     }
     let end = item_of(record, 0, Kind::Scenario)?;
-    if end != record.len() {
-        return None;
-    }
+    filled(record, end)?;
     let record = Encoded { bytes: record };
-    fields(record.slice(6, end))
+    fields(record.slice(HEADER, end))
 }
 
 /// Whether these bytes are a record, and how many steps it has.
+#[tactic(auto, using(crate::proofs::Answers::counted, crate::proofs::Answers::uncounted))]
 pub fn check_record(record: &[u8]) -> RecordAnswer
     ensures { answer_of result ≡ definition.check_record «record».now }
 {
@@ -263,10 +265,10 @@ fn field_at(record: &[u8], place: usize) -> Result<Option<Span>, Refusal>
     ensures { looked_of result ≡ definition.field «record».now place }
 {
     check_record(record).steps()?;
-    if place == 0 || place > 8 {
+    if !(1..=8).contains(&place) {
         return Err(Refusal::OutOfRange);
     }
-    Ok(nth_item(record, 6, place - 1))
+    Ok(nth_item(record, HEADER, place - 1))
 }
 
 /// The item of the field at this place, from 1 to 8 in the order of kind 16.
@@ -281,13 +283,11 @@ pub fn steps_of(record: &[u8]) -> Result<StepItems<'_>, Refusal>
     ensures { MatchResult result (StepsOf «record».now) (λ e. refusal e ≡ definition.check_record «record».now) }
 {
     let count = check_record(record).steps()?;
-    let Some(list) = nth_item(record, 6, 7) else {
-        return Err(Refusal::Malformed);
-    };
+    let list = nth_item(record, HEADER, 7).ok_or(Refusal::Malformed)?;
     let record = Encoded { bytes: record };
     Ok(StepItems {
         count,
-        items: record.part(list.start + 6, list.end),
+        items: record.part(list.start + HEADER, list.end),
     })
 }
 
@@ -296,7 +296,7 @@ pub fn step_at(record: &[u8], number: usize) -> Result<Option<Span>, Refusal>
     ensures { looked_of result ≡ definition.step «record».now number }
 {
     let steps = steps_of(record)?;
-    if number == 0 || number > steps.count {
+    if !(1..=steps.count).contains(&number) {
         return Err(Refusal::OutOfRange);
     }
     Ok(nth_item(record, steps.items.from, number - 1))
@@ -310,6 +310,7 @@ pub fn step(record: &[u8], number: usize) -> Lookup
 }
 
 /// The part of the record from `start` to `end`; the empty part where these are no places of it in order.
+#[tactic(auto, using(crate::proofs::Headers::part_got))]
 pub fn part(record: &[u8], start: usize, end: usize) -> &[u8]
     ensures { result.now ≡ part_of «record».now start end }
 {

@@ -8,12 +8,8 @@ use std::io;
 use std::io::Write;
 
 // What stands around the item must stay.
-fn print_int(out: &mut impl Write, negative: bool, magnitude: u64) -> io::Result<()> {
+fn print_int(out: &mut impl Write, n: Integer) -> io::Result<()> {
     let mut bytes = [7u8; 16];
-    let n = Integer {
-        negative,
-        magnitude,
-    };
     item::put_int(&mut bytes, 1, n);
     writeln!(out, "{}", Hex(&bytes))
 }
@@ -52,7 +48,11 @@ fn print_integers(out: &mut impl Write) -> io::Result<()> {
         (true, 9223372036854775807),
         (true, 9223372036854775808),
     ] {
-        print_int(out, negative, magnitude)?;
+        let n = Integer {
+            negative,
+            magnitude,
+        };
+        print_int(out, n)?;
     }
     Ok(())
 }

@@ -6,6 +6,7 @@ use lines::{Lines, MOST_LINES, Row};
 use std::io;
 use std::io::Write;
 
+// By place, as whoever reads lines asks for them.
 fn print_lines_of(out: &mut impl Write, lines: &Lines<'_>) -> io::Result<()> {
     write!(out, "ok")?;
     for i in 0..lines.len() {

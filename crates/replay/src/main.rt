@@ -88,6 +88,7 @@ fn main(rt: HostRuntime) -> io::Result<()> {
     let mut buffers = Buffers::new(rt.alloc())?;
     let mut input = BufReader::new(rt.alloc(), rt.reader())?;
     let mut out = BufWriter::new(rt.alloc(), io::writer(&rt))?;
+    // No `while let`, here and for texts: a stream does not tell how long it is, and a loop must be seen to end.
     for _ in 0..MANY {
         let Some(section) = next_section(&mut input)? else {
             break;

@@ -1,5 +1,5 @@
 // A section of the stream: its kind, three numbers, its texts, and a number that ends it.
-use crate::stream::{number_at, read_full};
+use crate::stream::{put_numbers, read_full};
 use std::io;
 use std::io::{ErrorKind, Read};
 
@@ -29,7 +29,7 @@ pub(crate) enum Question {
     Header { at: usize },
     // Whether so many bytes of a text are the same as the others.
     Same { size: usize },
-    // The line entries of a text.
+    // The lines of a text.
     Lines,
     // Where the key of a line ends, and the line's value.
     Value,
@@ -76,15 +76,19 @@ fn place(n: u32) -> usize {
     }
 }
 
-impl Section {
-    fn of_numbers(kind: u32, first: u32, second: u32, third: u32) -> Option<Section> {
+impl TryFrom<[u32; 4]> for Section {
+    type Error = io::Error;
+
+    // Of the kind and its three numbers.
+    fn try_from(numbers: [u32; 4]) -> io::Result<Section> {
+        let [kind, first, second, third] = numbers;
         let room = Room {
             work: first as usize,
             record: second as usize,
             lines: third as usize,
         };
         let question = match kind {
-            0 => return Some(Section::Items),
+            0 => return Ok(Section::Items),
             1 => Question::Header { at: place(first) },
             2 => Question::Same {
                 size: first as usize,
@@ -107,20 +111,20 @@ impl Section {
             },
             10 => Question::Record,
             11 => {
-                return Some(Section::LongRecord {
+                return Ok(Section::LongRecord {
                     from: first as usize,
                     end: second as usize,
                 });
             }
-            12 => return Some(Section::Parts),
-            13 => return Some(Section::ScenarioChecks),
+            12 => return Ok(Section::Parts),
+            13 => return Ok(Section::ScenarioChecks),
             14 => Question::RecordCheck,
             15 => Question::Lookups,
             16 => Question::Shares,
             17 => Question::Logs,
-            _ => return None,
+            _ => return Err(io::Error::from(ErrorKind::InvalidData)),
         };
-        Some(Section::Texts(question))
+        Ok(Section::Texts(question))
     }
 }
 
@@ -130,11 +134,7 @@ pub(crate) fn next_section(input: &mut impl Read) -> io::Result<Option<Section>>
     if !read_full(input, &mut head)? {
         return Ok(None);
     }
-    let section = Section::of_numbers(
-        number_at(&head, 0),
-        number_at(&head, 4),
-        number_at(&head, 8),
-        number_at(&head, 12),
-    );
-    Ok(Some(section.ok_or(io::Error::from(ErrorKind::InvalidData))?))
+    let mut numbers = [0u32; 4];
+    put_numbers(&head, 0, &mut numbers);
+    Section::try_from(numbers).map(Some)
 }

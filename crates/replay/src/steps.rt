@@ -34,8 +34,8 @@ fn print_read(
         StepsAnswer::Good { .. } => write!(out, "ok times")?,
         StepsAnswer::Refused(e) => write!(out, "refused {} times", Numbers(e))?,
     }
-    for before in 0..steps {
-        print_times(out, bytes, before + 1)?;
+    for number in 1..=steps {
+        print_times(out, bytes, number)?;
     }
     Ok(())
 }

@@ -129,3 +129,5 @@ open-some (Some Double) e z = omega arith
 pub open-none : (o : Option Quote) → is_some o ≡ false → open_of o ≡ 0
 open-none None e = refl
 open-none (Some quote) e = cc
+
+pub ruleset colons = (open-some, open-none, c-quoted, c-other, c-deep, c-behind, last-is, space-is)

@@ -1,19 +1,21 @@
 -- Laws of scalars: what they are written as, and where plain text ends. Assumes nothing.
-use Rattle.std.specs.Prelude.{if◌then◌else◌}
-use Rattle.std.proofs.Common.{◌≡◌, refl, sym, ap, ◌∙◌, ℕ, suc, ◌+◌, ◌-◌, ◌≤◌, ◌<◌, add-one, arith, List, [], ◌∷◌, Bool, true, false, ◌&&◌, ◌||◌, length, take, drop, get_or, drop_of_length-le, ℤ, drop-cons, drop-drop, le-leb, ne_eqb}
-use Rattle.std.proofs.Math.Bool.{or-false}
+use Rattle.std.specs.Prelude.{Result, if◌then◌else◌}
+use Rattle.std.specs.Result.{IsErrAnd}
+use Rattle.std.proofs.lemmas.Result.{err_from_is_err_and}
+use Rattle.std.proofs.Common.{◌≡◌, refl, ap, ◌∙◌, ℕ, suc, ◌+◌, ◌-◌, ◌≤◌, ◌<◌, add-one, arith, List, [], ◌∷◌, Bool, true, false, ◌&&◌, length, length-drop, take, drop, get_or, drop_of_length-le, ℤ, drop-cons, drop-drop, le-leb, ne_eqb}
 use Rattle.std.proofs.Math.Option.{Option, none, some}
 use Rattle.std.proofs.Math.Seq.{length-sets}
 use Rattle.std.proofs.lemmas.Bool.{lt-leb}
-use Rattle.refusal.specs.Base.{◌>>=◌, ch, bytes, same, one_of}
+use Rattle.refusal.specs.Base.{◌>>=◌, ch, bytes, one_of}
 use Rattle.refusal.specs.declared.Refusal.{Refusal}
+use Rattle.refusal.specs.declared.Refusal.TheVariants.{WorkTooShort}
 use Rattle.item.specs.Tree.{Yaml, null, bool, int, str, seq, dict}
 use Rattle.item.specs.Encode.{item, encode}
 use Rattle.item.proofs.Size.{item-length, encode-size}
-use Rattle.item.proofs.Same.{same_length}
 use Rattle.writer.specs.declared.Writer.{Writer}
-use Rattle.writer.specs.Writing.{cap_of, Appends, Lacks}
-use Rattle.writer.proofs.Laws.{keeps_same}
+use Rattle.writer.specs.Writing.{cap_of, room_of, Appends, Lacks}
+use Rattle.writer.proofs.Laws.{appends_none, keeps_same}
+use Rattle.writer.proofs.Sizes.{null_size, bool_size, int_size}
 use Rattle.utf8.specs.Part.{part}
 use Rattle.utf8.specs.White.{trim}
 use Rattle.utf8.specs.Places.{First}
@@ -24,7 +26,7 @@ use Rattle.scalar.specs.declared.Role.TheVariants.{AsValue, AsKey}
 use Rattle.scalar.specs.Scalars.{nulls, trues, falses, int_or, bool_text, scalar_of}
 use Rattle.scalar.specs.Read.{cost, charge, scalar, ends_item, ends_colon, stops_plain, plain_text, onto, plain}
 use Rattle.scalar.specs.Contract.{written, is_key, Refuses, WroteValue}
-use Rattle.scalar.specs.Code.{plain_len}
+use Rattle.scalar.specs.Code.{plain_len, Puts}
 
 -- ---- what a scalar is written as
 
@@ -54,10 +56,10 @@ written-cost AsKey (seq ys) f = absurd f
 written-cost AsKey (dict es) f = absurd f
 
 -- a string is written the same in both roles
-pub written-text : (role : Role) (s : List ℕ) → written role (str s) ≡ item 3 s
+pub written_text : (role : Role) (s : List ℕ) → written role (str s) ≡ item 3 s
 unfolding written encode
-written-text AsValue s = refl
-written-text AsKey s = refl
+written_text AsValue s = refl
+written_text AsKey s = refl
 
 -- a scalar whose bytes are put, or have no room, is read as the definition says
 module _ (role : Role) (y : Yaml) (flat : Flat y) (s : List ℕ) (old new : Writer) (next line : ℕ) (h : next ≤ length s) where
@@ -85,6 +87,17 @@ module _ (role : Role) (y : Yaml) (flat : Flat y) (s : List ℕ) (old new : Writ
         keeps = keeps_same p.same;
       }
 
+-- bytes that have no room are not put
+pub puts_nothing : (w : Writer) (bytes : List ℕ) (n : ℕ) (e : Refusal) (r : Result (Unit {0}) Refusal)
+    → IsErrAnd r (λ y. y ≡ e) → (room_of w < n) × (e ≡ WorkTooShort) → n ≡ length bytes → Puts w w bytes r
+puts_nothing w bytes n e r q h m =
+    let p = err_from_is_err_and r q in
+    rw (p.1, p.2) (record { is = h.1; short = omega (arith, h.0, m); same = refl })
+
+pub ruleset rooms = (puts_nothing, appends_none, null_size, bool_size, int_size, item-length)
+
+pub ruleset scalars = (wrote_scalar, refused_scalar)
+
 pub flat_scalar : (t : List ℕ) → Flat (scalar_of t)
 unfolding scalar_of int_or
 flat_scalar t = go (one_of t nulls) (one_of t trues) (one_of t falses) (integer t)
@@ -96,52 +109,22 @@ flat_scalar t = go (one_of t nulls) (one_of t trues) (one_of t falses) (integer 
     go false false false none = tt
     go false false false (some n) = tt
 
--- ---- words
-
--- words by their lengths
-module _ (t : List ℕ) where
-  pub null-empty : length t ≡ 0 → true ≡ one_of t nulls
-  unfolding one_of same
-  null-empty e = go t e
-    where
-      go : (t : List ℕ) → length t ≡ 0 → true ≡ one_of t nulls
-      go [] e = refl
-      go (b ∷ t) e = absurd (omega arith)
-
-  pub null-tilde : length t ≡ 1 → same t (bytes "~") ≡ one_of t nulls
-  unfolding one_of bytes
-  null-tilde e = rw (same_length t [] (λ q. omega arith), same_length t (bytes "null") (λ q. omega arith), same_length t (bytes "Null") (λ q. omega arith), same_length t (bytes "NULL") (λ q. omega arith)) (sym (or-false (same t (bytes "~"))))
-
-  pub null_word : length t ≡ 4 → (same t (bytes "null") || (same t (bytes "Null") || (same t (bytes "NULL") || false))) ≡ one_of t nulls
-  unfolding one_of bytes
-  null_word e = rw (same_length t [] (λ q. omega arith), same_length t (bytes "~") (λ q. omega arith))
-
-  pub null-other : (length t ≡ 0 → ⊥) → (length t ≡ 1 → ⊥) → (length t ≡ 4 → ⊥) → false ≡ one_of t nulls
-  unfolding one_of bytes
-  null-other n m k = rw (same_length t [] n, same_length t (bytes "~") m, same_length t (bytes "null") k, same_length t (bytes "Null") k, same_length t (bytes "NULL") k)
-
-  pub true-other : (length t ≡ 4 → ⊥) → false ≡ one_of t trues
-  unfolding one_of bytes
-  true-other k = rw (same_length t (bytes "true") k, same_length t (bytes "True") k, same_length t (bytes "TRUE") k)
-
-  pub false-other : (length t ≡ 5 → ⊥) → false ≡ one_of t falses
-  unfolding one_of bytes
-  false-other k = rw (same_length t (bytes "false") k, same_length t (bytes "False") k, same_length t (bytes "FALSE") k)
-
 -- ---- plain text
 
 module _ (s : List ℕ) (i : ℕ) where
-  pub colon-last : length s ≤ i → true ≡ ends_colon (drop i s)
+  pub colon_last : length s ≤ i → true ≡ ends_colon (drop i s)
   unfolding ends_colon
-  colon-last h = rw (drop_of_length-le s {i = i} h)
+  colon_last h = rw (drop_of_length-le s {i = i} h)
 
-  pub colon-space : i < length s → get_or s i 0 ≡ ch " " → true ≡ ends_colon (drop i s)
+  pub colon_space : i < length s → get_or s i 0 ≡ ch " " → true ≡ ends_colon (drop i s)
   unfolding ends_colon
-  colon-space h e = rw (drop-cons s i 0 h, e)
+  colon_space h e = rw (drop-cons s i 0 h, e)
 
-  pub colon-other : i < length s → (get_or s i 0 ≡ ch " " → ⊥) → ends_item (get_or s i 0) ≡ ends_colon (drop i s)
+  pub colon_other : i < length s → (get_or s i 0 ≡ ch " " → ⊥) → ends_item (get_or s i 0) ≡ ends_colon (drop i s)
   unfolding ends_colon
-  colon-other h n = rw (drop-cons s i 0 h, ne_eqb (get_or s i 0) (ch " ") n)
+  colon_other h n = rw (drop-cons s i 0 h, ne_eqb (get_or s i 0) (ch " ") n)
+
+pub ruleset colons = (colon_last, colon_space, colon_other)
 
 module _ (s : List ℕ) (i : ℕ) where
   pub plain-none : (f : Bool) → length s ≤ i → plain_len f (drop i s) ≡ 0
@@ -168,6 +151,8 @@ pub plain_top : (s : List ℕ) → plain_len false s ≡ length s
 unfolding plain_len
 plain_top [] = refl
 plain_top (b ∷ s) = ap suc (plain_top s)
+
+pub ruleset plain_tops = (plain_top, length-drop)
 
 plain-split : (f : Bool) (s : List ℕ) → plain_text f s ≡ (take (plain_len f s) s, drop (plain_len f s) s)
 unfolding plain_text plain_len

@@ -17,7 +17,7 @@ use Rattle.scalar.specs.declared.quoted_text.Piece.TheVariants.{Byte, Shut}
 use Rattle.scalar.specs.Read.{escape, stop, scalar, onto_good, double_quoted, single_quoted, string}
 use Rattle.scalar.specs.Code.{escape_of, Content, ReadsPiece, Spanned}
 use Rattle.scalar.specs.Contract.{is_key, Refuses, WroteValue}
-use Rattle.scalar.proofs.Laws.{written-text, wrote_scalar, refused_scalar}
+use Rattle.scalar.proofs.Laws.{written_text, wrote_scalar, refused_scalar}
 
 -- what the code's answer tells of an escape
 pub escaped_err : (o : Option ℕ) (r : Chance ℕ) (d e : Refusal) → r ≡ escape_of o → Err e ≡ ok_or r d → (e ≡ d) × (o ≡ none)
@@ -190,7 +190,13 @@ module _ (role : Role) (f : List ℕ → Content) (s : List ℕ) (old new : Writ
 
   pub wrote_string : Appends old new (item 3 p.content) → WroteValue role (string (cap_of old) line role old.used (f (drop i s))) s old new next true
   unfolding is_key
-  wrote_string q = rw reads (wrote_scalar role (str p.content) tt s old new next line p.forward true refl (rw (written-text role p.content) q))
+  wrote_string q = rw reads (wrote_scalar role (str p.content) tt s old new next line p.forward true refl (rw (written_text role p.content) q))
 
   pub refused_string : (e : Refusal) → Lacks old new (item 3 p.content) e → Refuses (string (cap_of old) line role old.used (f (drop i s))) old new e
-  refused_string e q = rw reads (refused_scalar role (str p.content) tt s old new next line p.forward e (rw (written-text role p.content) q))
+  refused_string e q = rw reads (refused_scalar role (str p.content) tt s old new next line p.forward e (rw (written_text role p.content) q))
+
+pub ruleset escapes = (escape-cut, escape-unknown, escape-byte, escaped_err, escaped_ok)
+
+pub ruleset doubles = (double-open, double-shut, double-byte)
+
+pub ruleset singles = (single-open, single-byte, single-last, single-shut, single-two)

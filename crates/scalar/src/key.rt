@@ -54,6 +54,7 @@ fn depth_after(quote: Option<Quote>, depth: usize, b: u8) -> usize
 }
 
 // Whether a colon that qualifies stands at `i`.
+#[tactic(auto, using(crate::proofs::KeyLaws::colons))]
 fn colon_at(s: &[u8], quote: Option<Quote>, depth: usize, i: usize) -> bool
     requires { i < length s.now }
     ensures { result ≡ qualifies (open_of quote) depth (drop i s.now) }

@@ -31,7 +31,7 @@ pub enum Quote {
     Double,
 }
 
-/// What was read: the place of the line behind it, and whether the value can be a key.
+/// What was read: the place in the line behind it, and whether the value can be a key.
 #[derive(Clone, Copy, Debug, PartialEq, Eq)]
 pub struct Parsed {
     pub next: usize,

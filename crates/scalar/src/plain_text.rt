@@ -3,7 +3,7 @@ ghost use Rattle.std.specs.Prelude.{◌≡◌, true, false, List, ℕ, ◌+◌, 
 ghost use Rattle.refusal.specs.Base.{one_of};
 ghost use Rattle.item.specs.Tree.{null, bool, int, str};
 ghost use Rattle.item.specs.Encode.{signed, item};
-ghost use Rattle.writer.specs.Writing.{cap_of, room_of, Appends};
+ghost use Rattle.writer.specs.Writing.{cap_of};
 ghost use Rattle.number.specs.Integers.{int_text};
 ghost use Rattle.scalar.specs.Scalars.{nulls, trues, falses, scalar_of};
 ghost use Rattle.scalar.specs.Read as read;
@@ -12,8 +12,8 @@ ghost use Rattle.scalar.specs.Contract.{written, is_key, is_in_flow, ReadsValue}
 ghost use Rattle.scalar.specs.Code.{yaml_of, Puts, plain_len};
 
 use super::{Parsed, Role, Stops};
-use item::{Integer, Kind, same_bytes};
-use number::{int_len, integer, put_int_text};
+use item::{HEADER, Integer, Kind, one_of};
+use number::{int_len, integer};
 use refusal::Refusal;
 use utf8::{first_place, trimmed};
 use writer::Writer;
@@ -36,56 +36,26 @@ impl Said {
     }
 }
 
-// These three compare word by word: `matches!` on the words goes byte by byte, and its proof did not close.
+// By `one_of`, here and in the next two: a `match` on the words would go byte by byte, in the machine code and in the proof.
+#[tactic(auto, unfolding(refusal::specs::Base::bytes, refusal::specs::Base::one_of))]
 fn is_null(t: &[u8]) -> bool
     ensures { result ≡ one_of t.now nulls }
 {
-    if t.len() == 0 {
-        return true;
-    }
-    if t.len() == 1 {
-        return same_bytes(t, b"~");
-    }
-    if t.len() != 4 {
-        return false;
-    }
-    if same_bytes(t, b"null") {
-        return true;
-    }
-    if same_bytes(t, b"Null") {
-        return true;
-    }
-    same_bytes(t, b"NULL")
+    one_of(t, &[b"", b"~", b"null", b"Null", b"NULL"])
 }
 
+#[tactic(auto, unfolding(refusal::specs::Base::bytes, refusal::specs::Base::one_of))]
 fn is_true(t: &[u8]) -> bool
     ensures { result ≡ one_of t.now trues }
 {
-    if t.len() != 4 {
-        return false;
-    }
-    if same_bytes(t, b"true") {
-        return true;
-    }
-    if same_bytes(t, b"True") {
-        return true;
-    }
-    same_bytes(t, b"TRUE")
+    one_of(t, &[b"true", b"True", b"TRUE"])
 }
 
+#[tactic(auto, unfolding(refusal::specs::Base::bytes, refusal::specs::Base::one_of))]
 fn is_false(t: &[u8]) -> bool
     ensures { result ≡ one_of t.now falses }
 {
-    if t.len() != 5 {
-        return false;
-    }
-    if same_bytes(t, b"false") {
-        return true;
-    }
-    if same_bytes(t, b"False") {
-        return true;
-    }
-    same_bytes(t, b"FALSE")
+    one_of(t, &[b"false", b"False", b"FALSE"])
 }
 
 #[tactic(auto, unfolding(crate::specs::Scalars::scalar_of, crate::specs::Scalars::int_or))]
@@ -108,48 +78,52 @@ fn said_by(t: &[u8]) -> Said
 }
 
 // A string's item is the same in a key's place.
+#[tactic(auto, using(crate::proofs::Laws::rooms), unfolding(item::specs::Encode::encode))]
 fn put_text(t: &[u8], writer: &mut Writer<'_>) -> Result<(), Refusal>
     requires { length t.now ≤ 65535 }
     ensures { Puts writer.old writer.new (item 3 t.now) result }
 {
-    writer.reserve(6 + t.len())?;
+    writer.reserve(HEADER + t.len())?;
     writer.string(t);
     Ok(())
 }
 
+#[tactic(auto, using(crate::proofs::Laws::rooms), unfolding(crate::specs::Contract::written))]
 fn put_null(role: Role, writer: &mut Writer<'_>) -> Result<(), Refusal>
     ensures { Puts writer.old writer.new (written role null) result }
 {
     match role {
         Role::AsKey => Ok(()),
         Role::AsValue => {
-            writer.reserve(6)?;
+            writer.reserve(HEADER)?;
             writer.null();
             Ok(())
         }
     }
 }
 
+#[tactic(auto, using(crate::proofs::Laws::rooms), unfolding(crate::specs::Contract::written, crate::specs::Scalars::bool_text, refusal::specs::Base::bytes))]
 fn put_bool(value: bool, role: Role, writer: &mut Writer<'_>) -> Result<(), Refusal>
     ensures { Puts writer.old writer.new (written role (bool value)) result }
 {
     match role {
         Role::AsKey => put_text(if value { b"true" } else { b"false" }, writer),
         Role::AsValue => {
-            writer.reserve(7)?;
+            writer.reserve(HEADER + 1)?;
             writer.bool(value);
             Ok(())
         }
     }
 }
 
+#[tactic(auto, using(crate::proofs::Laws::rooms), unfolding(crate::specs::Contract::written))]
 fn put_int(n: Integer, role: Role, writer: &mut Writer<'_>) -> Result<(), Refusal>
     ensures { Puts writer.old writer.new (written role (int (signed n.negative n.magnitude))) result }
 {
     match role {
         Role::AsKey => put_int_key(n, writer),
         Role::AsValue => {
-            writer.reserve(14)?;
+            writer.reserve(HEADER + 8)?;
             writer.int(n);
             Ok(())
         }
@@ -157,27 +131,19 @@ fn put_int(n: Integer, role: Role, writer: &mut Writer<'_>) -> Result<(), Refusa
 }
 
 // An integer's text as a string.
+#[tactic(auto, using(crate::proofs::Laws::rooms))]
 fn put_int_key(n: Integer, writer: &mut Writer<'_>) -> Result<(), Refusal>
     ensures { Puts writer.old writer.new (item 3 (int_text (signed n.negative n.magnitude))) result }
 {
     let size = int_len(n);
-    writer.reserve(6 + size)?;
+    writer.reserve(HEADER + size)?;
     writer.header(Kind::Str, size);
-    put_digits(n, size, writer);
+    writer.digits(n);
     Ok(())
 }
 
-fn put_digits(n: Integer, size: usize, writer: &mut Writer<'_>)
-    requires size { size ≡ length (int_text (signed n.negative n.magnitude)) }
-    requires room { size ≤ room_of writer.old }
-    ensures { Appends writer.old writer.new (int_text (signed n.negative n.magnitude)) }
-{
-    let out = &mut *writer.out;
-    put_int_text(out, writer.used, n);
-    writer.used += size;
-}
-
 // The scalar that a trimmed text says, in its role.
+#[tactic(auto, using(crate::proofs::Laws::written_text))]
 fn put_scalar(said: Said, t: &[u8], role: Role, writer: &mut Writer<'_>) -> Result<(), Refusal>
     requires { length t.now ≤ 65535 }
     ensures { Puts writer.old writer.new (written role (yaml_of t.now said)) result }
@@ -191,6 +157,7 @@ fn put_scalar(said: Said, t: &[u8], role: Role, writer: &mut Writer<'_>) -> Resu
 }
 
 /// A null that nobody wrote, before the place `next`. In a key's place it takes no bytes.
+#[tactic(auto, using(crate::proofs::Laws::scalars), unfolding(crate::specs::Contract::is_key))]
 pub fn null_at(
     s: &[u8],
     next: usize,
@@ -213,6 +180,7 @@ fn ends_item(b: u8) -> bool
 }
 
 /// Whether a colon before the place `i` ends plain text in flow: one that is last, or before a space or a byte that ends an item.
+#[tactic(auto, using(crate::proofs::Laws::colons))]
 pub fn ends_colon(s: &[u8], i: usize) -> bool
     requires { i ≤ length s.now }
     ensures { result ≡ ends_colon (drop i s.now) }
@@ -234,6 +202,7 @@ fn stops_plain(s: &[u8], i: usize) -> bool
     ends_item(b) || b == b':' && ends_colon(s, i + 1)
 }
 
+#[tactic(auto, using(crate::proofs::Laws::plain_tops))]
 fn plain_end(s: &[u8], i: usize, stops: Stops) -> usize
     requires { i ≤ length s.now }
     ensures here { result ≡ i + plain_len (is_in_flow stops) (drop i s.now) }

@@ -9,7 +9,7 @@ ghost use Rattle.scalar.specs.Contract.{quoted_of, ReadsValue};
 ghost use Rattle.scalar.specs.Code.{escape_of, ReadsPiece, Spans};
 
 use super::{Parsed, Quote};
-use item::Kind;
+use item::{HEADER, Kind};
 use refusal::Refusal;
 use writer::Writer;
 
@@ -18,6 +18,17 @@ use writer::Writer;
 enum Piece {
     Byte { byte: u8, next: usize },
     Shut { next: usize },
+}
+
+// A quoted string that is to be read: its quote, the part of a line that it stands in, where it begins there behind its opening quote, and
+// the line's number.
+#[derive(Clone, Copy)]
+struct InQuotes<'a> {
+    quote: Quote,
+    s: &'a [u8],
+    from: usize,
+    line: u32,
+    ghost inside: { from ≤ length s.now },
 }
 
 // Where a quoted string's closing quote ends, and how many bytes the string has.
@@ -42,7 +53,9 @@ fn unescaped(c: u8) -> Option<u8>
     }
 }
 
-// The escape whose `\` stands before `i`.
+// The pieces of each quote, by part, place and line: an `InQuotes` would say which quote it is once more. First the escape whose `\` stands
+// before `i`.
+#[tactic(auto, using(crate::proofs::QuoteLaws::escapes))]
 fn escape_piece(s: &[u8], i: usize, line: u32) -> Result<Piece, Refusal>
     requires { i ≤ length s.now }
     ensures { (cap : ℕ) → ReadsPiece (double_quoted cap line true) (double_quoted cap line false) cap line s.now i result }
@@ -54,6 +67,7 @@ fn escape_piece(s: &[u8], i: usize, line: u32) -> Result<Piece, Refusal>
     Ok(Piece::Byte { byte, next: i + 1 })
 }
 
+#[tactic(auto, using(crate::proofs::QuoteLaws::doubles))]
 fn double_piece(s: &[u8], i: usize, line: u32) -> Result<Piece, Refusal>
     requires { i ≤ length s.now }
     ensures { (cap : ℕ) → ReadsPiece (double_quoted cap line false) (double_quoted cap line false) cap line s.now i result }
@@ -70,6 +84,7 @@ fn double_piece(s: &[u8], i: usize, line: u32) -> Result<Piece, Refusal>
 }
 
 // Two quotes are one of the string's.
+#[tactic(auto, using(crate::proofs::QuoteLaws::singles))]
 fn single_piece(s: &[u8], i: usize, line: u32) -> Result<Piece, Refusal>
     requires { i ≤ length s.now }
     ensures { (cap : ℕ) → ReadsPiece (single_quoted cap line false) (single_quoted cap line false) cap line s.now i result }
@@ -91,25 +106,25 @@ fn single_piece(s: &[u8], i: usize, line: u32) -> Result<Piece, Refusal>
     })
 }
 
-fn piece_at(quote: Quote, s: &[u8], i: usize, line: u32) -> Result<Piece, Refusal>
-    requires { i ≤ length s.now }
-    ensures { (cap : ℕ) → ReadsPiece (quoted_of quote cap line) (quoted_of quote cap line) cap line s.now i result }
+fn piece_at(string: InQuotes<'_>, i: usize) -> Result<Piece, Refusal>
+    requires { i ≤ length string.s.now }
+    ensures { (cap : ℕ) → ReadsPiece (quoted_of string.entry.quote cap string.entry.line) (quoted_of string.entry.quote cap string.entry.line)
+        cap string.entry.line string.entry.s.now i result }
 {
-    match quote {
-        Quote::Single => single_piece(s, i, line),
-        Quote::Double => double_piece(s, i, line),
+    match string.quote {
+        Quote::Single => single_piece(string.s, i, string.line),
+        Quote::Double => double_piece(string.s, i, string.line),
     }
 }
 
 // A loop by places, since an escape and two single quotes take two places each.
-fn span_of(quote: Quote, s: &[u8], i: usize, line: u32) -> Result<Span, Refusal>
-    requires { i ≤ length s.now }
-    ensures { (cap : ℕ) → Spans (quoted_of quote cap line) s.now i result }
+fn span_of(string: InQuotes<'_>) -> Result<Span, Refusal>
+    ensures { (cap : ℕ) → Spans (quoted_of string.entry.quote cap string.entry.line) string.entry.s.now string.entry.from result }
 {
-    let mut place = i;
+    let mut place = string.from;
     let mut size = 0;
     loop {
-        match piece_at(quote, s, place, line)? {
+        match piece_at(string, place)? {
             Piece::Byte { byte: _, next } => {
                 place = next;
                 size += 1;
@@ -120,15 +135,14 @@ fn span_of(quote: Quote, s: &[u8], i: usize, line: u32) -> Result<Span, Refusal>
 }
 
 // The string's bytes, of which there are `size`.
-fn put_bytes(quote: Quote, s: &[u8], i: usize, line: u32, size: usize, writer: &mut Writer<'_>)
-    requires in_range { i ≤ length s.now }
-    requires room { size ≤ room_of writer.old }
-    ensures { (cap : ℕ) (t rest : List ℕ) → quoted_of quote cap line (drop i s.now) ≡ good (t, rest) → length t ≡ size
-        → Appends writer.old writer.new t }
+fn put_bytes(string: InQuotes<'_>, size: usize, writer: &mut Writer<'_>)
+    requires { size ≤ room_of writer.old }
+    ensures { (cap : ℕ) (t rest : List ℕ) → quoted_of string.entry.quote cap string.entry.line (drop string.entry.from string.entry.s.now)
+        ≡ good (t, rest) → length t ≡ size → Appends writer.old writer.new t }
 {
-    let mut place = i;
+    let mut place = string.from;
     for _ in 0..size {
-        match piece_at(quote, s, place, line) {
+        match piece_at(string, place) {
             Ok(Piece::Byte { byte, next }) => {
                 writer.push(byte);
                 place = next;
@@ -140,17 +154,18 @@ fn put_bytes(quote: Quote, s: &[u8], i: usize, line: u32, size: usize, writer: &
 }
 
 // The same bytes of a string whose closing quote stands before `next`: where each takes one place, none is escaped.
-fn put_content(quote: Quote, s: &[u8], i: usize, span: Span, line: u32, writer: &mut Writer<'_>)
-    requires in_range { (i + span.size ≤ length s.now) × (span.next ≤ length s.now) }
+#[tactic(auto, using(crate::proofs::Copied::copied))]
+fn put_content(string: InQuotes<'_>, span: Span, writer: &mut Writer<'_>)
+    requires in_range { (string.from + span.size ≤ length string.s.now) × (span.next ≤ length string.s.now) }
     requires room { span.size ≤ room_of writer.old }
-    ensures { (cap : ℕ) (t : List ℕ) → quoted_of quote cap line (drop i s.now) ≡ good (t, drop span.next s.now)
-        → length t ≡ span.size → Appends writer.old writer.new t }
+    ensures { (cap : ℕ) (t : List ℕ) → quoted_of string.entry.quote cap string.entry.line (drop string.entry.from string.entry.s.now)
+        ≡ good (t, drop span.next string.entry.s.now) → length t ≡ span.size → Appends writer.old writer.new t }
 {
-    let end = i + span.size;
+    let end = string.from + span.size;
     if span.next == end + 1 {
-        writer.put(&s[i..end]);
+        writer.put(&string.s[string.from..end]);
     } else {
-        put_bytes(quote, s, i, line, span.size, writer);
+        put_bytes(string, span.size, writer);
     }
 }
 
@@ -168,10 +183,16 @@ pub fn quoted(
     ensures { (role : Roles) → ReadsValue role (string (cap_of writer.old) line role writer.old.used
         (quoted_of quote (cap_of writer.old) line (drop i s.now))) s.now writer.old writer.new result }
 {
-    let span = span_of(quote, s, i, line)?;
-    writer.reserve(6 + span.size)?;
+    let string = InQuotes {
+        quote,
+        s,
+        from: i,
+        line,
+    };
+    let span = span_of(string)?;
+    writer.reserve(HEADER + span.size)?;
     writer.header(Kind::Str, span.size);
-    put_content(quote, s, i, span, line, writer);
+    put_content(string, span, writer);
     Ok(Parsed {
         next: span.next,
         key: true,

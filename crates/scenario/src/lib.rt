@@ -6,7 +6,7 @@ ghost use Rattle.std.specs.Prelude.{◌≡◌, ◌≤◌, ◌<◌, ◌^◌, leng
 ghost use Rattle.item.specs.Tree as trees;
 ghost use Rattle.item.specs.Tree.{Yaml, Ranged};
 ghost use Rattle.item.specs.Encode.{encode};
-ghost use Rattle.entries.specs.Entries.{Stands, Holds};
+ghost use Rattle.entries.specs.Entries.{Stands, HoldsIn};
 ghost use Rattle.nodes.specs.Writing.{Goes};
 ghost use Rattle.meaning.specs.Record.{steps_item, record_of};
 ghost use Rattle.meaning.specs.Meanings.{steps_from, meaning_of};
@@ -15,12 +15,12 @@ ghost use Rattle.scenario.specs.Contract.{WritesSteps, AgreesScenario};
 
 use item::{Encoded, Item, Kind, LIMIT, Part};
 use lines::{Lines, MOST_LINES, Row};
-use nodes::RecordWriter;
+use nodes::{Node, RecordWriter};
 use refusal::Refusal;
 use step::step_at;
 use step_lines::{first_dash, next_dash};
 use top::{put_top, read_top};
-use tree::{counted, read_with};
+use tree::read_with;
 
 /// What reading a scenario answers: the bytes of each output, and how many steps there are.
 // An enum of its own, as each public job answers: what it tells has names, and the definitions name its cases.
@@ -35,7 +35,8 @@ pub enum ScenarioAnswer {
     Refused(Refusal),
 }
 
-// The bytes of each output, and how many steps there are.
+// What the answer tells of a reading, so that `read` hands refusals on by `?`. One `match` makes the answer of it where a refusal clears the
+// outputs; a `From` beside that asks which of the two it is twice.
 #[derive(Clone, Copy, Debug, PartialEq, Eq)]
 struct Sizes {
     tree_bytes: usize,
@@ -44,8 +45,8 @@ struct Sizes {
     steps: usize,
 }
 
-// Stores a number if there is a place for it, by index, since what is written through `get_mut` is not known afterwards. Two other crates have
-// such a function; one shared would be no plainer, being a crate of itself.
+// Stores a number if there is a place for it, by index, since what is written through `get_mut` is not known afterwards. `pair_logs` has such
+// a function, and `drum` one for five numbers; one shared would be no plainer, being a crate of itself.
 fn store(lines: &mut [u32], i: usize, n: u32)
     ensures { i < length lines.old → lines.new ≡ set lines.old i n }
 {
@@ -62,24 +63,28 @@ fn put_steps(
     lines: &mut [u32],
 ) -> Result<usize, Refusal>
     ensures goes { Goes writer.old writer.new }
-    ensures steps { (ys : trees.Items) → Holds part.entry.bytes.now part.entry.from part.entry.to ys
+    ensures steps { (ys : trees.Items) → HoldsIn part.entry ys
         → WritesSteps (λ lines. steps_from 1 lines ys) steps_item (λ ss. ss) text.now writer.old writer.new lines.old lines.new result }
 {
-    let s = part.encoded();
     let first = first_dash(text);
     let header = writer.open();
+    let mut next = first.at;
+    // Counted by hand, since how many steps there are is the answer too.
     let mut steps = 0;
-    let mut d = first.at;
     for item in part.walk::<Item>() {
         let number = (steps + 1) as u32;
         let Ok(item) = item else {
             return Err(Refusal::StepNotMapping { step: number });
         };
-        let dash = next_dash(text, d, first.indent);
-        step_at(s, item, dash.line, number, writer)?;
+        let dash = next_dash(text, next, first.indent);
+        let node = Node {
+            bytes: part.bytes,
+            item,
+        };
+        step_at(node, dash.line, number, writer)?;
         store(lines, steps, dash.line);
         steps += 1;
-        d = dash.next;
+        next = dash.next;
     }
     writer.close(header, Kind::Steps);
     Ok(steps)
@@ -98,15 +103,15 @@ fn put_record(
 {
     let top = read_top(s)?;
     let header = writer.open();
-    put_top(s, top, writer);
+    put_top(top, writer);
     let steps = put_steps(top.steps, text, writer, lines)?;
     writer.close(header, Kind::Scenario);
     Ok(steps)
 }
 
+// What a job lends is lent on as it is, one by one, since the clauses name each.
 fn read(
     text: &[u8],
-    rows: &mut [Row; MOST_LINES],
     work: &mut [u8],
     record: &mut [u8],
     lines: &mut [u32],
@@ -116,7 +121,8 @@ fn read(
         work.old work.new «record».old «record».new lines.old lines.new
         result }
 {
-    let tree = read_with(text, rows, work)?;
+    let mut rows = [Row::EMPTY; MOST_LINES];
+    let tree = read_with(text, &mut rows, work)?;
     let text = Lines::new(text, &rows[..tree.count]);
     let mut writer = RecordWriter::new(record);
     let steps = put_record(Encoded { bytes: work }, &text, &mut writer, lines)?;
@@ -152,22 +158,27 @@ pub fn read_scenario(
     ensures numbers { lines.new ≡ output step_numbers
         (scenario_of work.old «record».old lines.old text.now) lines.old }
 {
-    let mut rows = [Row::EMPTY; MOST_LINES];
-    let w = counted(work.len(), LIMIT);
-    let r = counted(record.len(), LIMIT);
-    let l = counted(lines.len(), LIMIT / 4);
+    let work_len = work.len().min(LIMIT);
+    let record_len = record.len().min(LIMIT);
+    let places = lines.len().min(LIMIT / 4);
     match read(
         text,
-        &mut rows,
-        &mut work[..w],
-        &mut record[..r],
-        &mut lines[..l],
+        &mut work[..work_len],
+        &mut record[..record_len],
+        &mut lines[..places],
     ) {
-        Ok(sizes) => ScenarioAnswer::Read {
-            tree_bytes: sizes.tree_bytes,
-            record_bytes: sizes.record_bytes,
-            line_bytes: sizes.line_bytes,
-            steps: sizes.steps,
+        Ok(
+            Sizes {
+                tree_bytes,
+                record_bytes,
+                line_bytes,
+                steps,
+            },
+        ) => ScenarioAnswer::Read {
+            tree_bytes,
+            record_bytes,
+            line_bytes,
+            steps,
         },
         Err(e) => {
             work.fill(0);

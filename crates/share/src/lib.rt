@@ -93,7 +93,8 @@ fn stroke(wish: u32, got: u32, left: u32) -> u32
     if got < wish { left.min(1) } else { 0 }
 }
 
-// What the drums have after the whole rounds and one with the rest.
+// What the drums have after the whole rounds and one with the rest. By index, since what is written through `iter_mut` beside a second iterator
+// is not known afterwards.
 #[tactic(auto, using(crate::proofs::Turns::turns))]
 fn last_round(wishes: Wishes<'_>, rounds: Rounds) -> [u32; MOST_DRUMS]
     requires { rounds.whole ≤ 255 }
@@ -118,9 +119,7 @@ fn strokes_given(wishes: &[u32], allowed: u32) -> Result<[u32; MOST_DRUMS], Refu
     if wishes.len() > MOST_DRUMS {
         return Err(Refusal::WishesOutOfRange);
     }
-    let Some(most) = greatest_of(wishes) else {
-        return Err(Refusal::WishesOutOfRange);
-    };
+    let most = greatest_of(wishes).ok_or(Refusal::WishesOutOfRange)?;
     if most > MOST_STROKES {
         return Err(Refusal::WishesOutOfRange);
     }

@@ -1,20 +1,20 @@
 -- A walk along entries: what the entries passed say of the step fields and of the command. Assumes nothing.
-use Rattle.std.specs.Prelude.{if◌then◌else◌}
-use Rattle.std.proofs.Common.{◌≡◌, refl, ap, sym, ◌∙◌, ℕ, ◌-◌, ◌≤◌, List, Bool, true, false, ◌||◌, length, take, drop}
+use Rattle.std.specs.Prelude.{Some, None, if◌then◌else◌}
+use Rattle.std.proofs.Common.{Bor, arith, subst, ◌⊎◌, inl, inr, ◌≡◌, refl, ap, sym, ◌∙◌, ℕ, ◌-◌, ◌≤◌, List, Bool, true, false, ◌||◌, length, take, drop}
 use Rattle.std.proofs.Math.Option.{some}
 use Rattle.refusal.specs.Base.{refused, one_of, same, bytes}
 use Rattle.item.specs.Tree.{Yaml, Entries, done, pair, get}
 use Rattle.item.specs.declared.Found.{Found}
+use Rattle.item.specs.declared.encoded.Part.{Part}
 use Rattle.item.specs.declared.Found.TheVariants as found
-use Rattle.entries.specs.Entries.{Holds, Finds, FoundAt, FoundInside}
+use Rattle.entries.specs.Entries.{Holds, Finds, FoundAt}
 use Rattle.entries.specs.declared.Pair.{Pair}
 use Rattle.entries.proofs.Walking.{no_more, first-ranged, others-ranged, Turn}
 use Rattle.meaning.specs.Meaning.{step_fields}
 use Rattle.meaning.specs.Meanings.{commands, command_of}
 use Rattle.step.specs.declared.Command.{Command}
 use Rattle.step.specs.declared.Command.TheVariants.{Nothing, One, More}
-use Rattle.step.specs.declared.StepFields.{StepFields}
-use Rattle.step.specs.Contract.{EntryAt, AgreesCommand, CommandInside, field_with, command_with, AgreesFields, FieldsInside}
+use Rattle.step.specs.Contract.{EntryAt, OneCommand, AgreesCommand, field_with, command_with}
 
 -- the key of a step field, test by test
 pub one_field : (w : List ℕ) → same w (bytes "name") || same w (bytes "id") || same w (bytes "timeout") || same w (bytes "continue_on_error") || same w (bytes "expect") ≡ one_of w step_fields
@@ -29,9 +29,18 @@ one_field w = go (same w (bytes "name")) (same w (bytes "id")) (same w (bytes "t
     go false false false false true = refl
     go false false false false false = refl
 
--- the fields with one entry more, whose key is `k`
-abbrev pub fields_with : StepFields → List ℕ → ℕ → ℕ → StepFields
-fields_with f k key value = record {
+-- what was found so far
+pub record Places : Type 0 where
+  pub name : Found
+  pub id : Found
+  pub timeout : Found
+  pub continues : Found
+  pub expect : Found
+  pub command : Command
+
+-- that with one entry more, whose key is `k`
+abbrev pub places_with : Places → List ℕ → ℕ → ℕ → Places
+places_with f k key value = record {
   name = field_with f.name (same k (bytes "name")) value;
   id = field_with f.id (same k (bytes "id")) value;
   timeout = field_with f.timeout (same k (bytes "timeout")) value;
@@ -41,13 +50,13 @@ fields_with f k key value = record {
 }
 
 -- the same part by part
-module _ (f : StepFields) (w : List ℕ) (key value : ℕ) where
-  pub more-fields : {a b c d e : Bool} {name id timeout continues expect : Found} {command : Command}
+module _ (f : Places) (w : List ℕ) (key value : ℕ) where
+  pub more-places : {a b c d e : Bool} {name id timeout continues expect : Found} {command : Command}
       → a ≡ same w (bytes "name") → b ≡ same w (bytes "id") → c ≡ same w (bytes "timeout") → d ≡ same w (bytes "continue_on_error") → e ≡ same w (bytes "expect")
       → name ≡ field_with f.name a value → id ≡ field_with f.id b value → timeout ≡ field_with f.timeout c value → continues ≡ field_with f.continues d value → expect ≡ field_with f.expect e value
       → command ≡ command_with f.command (a || b || c || d || e) key value
-      → ◌≡◌ {A = StepFields} (record { name = name; id = id; timeout = timeout; continues = continues; expect = expect; command = command }) (fields_with f w key value)
-  more-fields a b c d e n i t k x o = rw (n, i, t, k, x, o, a, b, c, d, e, one_field w)
+      → ◌≡◌ {A = Places} (record { name = name; id = id; timeout = timeout; continues = continues; expect = expect; command = command }) (places_with f w key value)
+  more-places a b c d e n i t k x o = rw (n, i, t, k, x, o, a, b, c, d, e, one_field w)
 
 -- ---- what is known where the entries `rest` are left of `es`
 
@@ -67,7 +76,7 @@ CommandLeft s es rest Nothing = commands es ≡ commands rest
 CommandLeft s es rest (One key value) = Passed s es rest key value
 CommandLeft s es rest More = (n : ℕ) → command_of n (commands es) ≡ refused 34 0 n
 
-pub record Left (s : List ℕ) (to at : ℕ) (es : Entries) (f : StepFields) : Type 0 where
+pub record Left (s : List ℕ) (to at : ℕ) (es : Entries) (f : Places) : Type 0 where
   pub rest : Entries
   pub holds : Holds s at to rest
   pub name : FieldLeft s (bytes "name") es rest f.name
@@ -84,13 +93,38 @@ unfolding get
 field_end s k es rest (found.At p) e l = l
 field_end s k es rest found.Nothing e l = l ∙ ap (get k) e
 
-command-end : (s : List ℕ) (es rest : Entries) (c : Command) → rest ≡ done → CommandLeft s es rest c → AgreesCommand s (commands es) c
+-- the command by its places
+abbrev pub AgreesFound : List ℕ → Entries → Command → Type 0
+AgreesFound s cs (One key value) = OneCommand s cs key value
+AgreesFound s cs Nothing = (n : ℕ) → command_of n cs ≡ refused 34 0 n
+AgreesFound s cs More = (n : ℕ) → command_of n cs ≡ refused 34 0 n
+
+pub not-one : (s : List ℕ) (cs : Entries) (c : Command) → ((key value : ℕ) → c ≡ One key value → ⊥) → AgreesFound s cs c → (n : ℕ) → command_of n cs ≡ refused 34 0 n
+not-one s cs Nothing o a = a
+not-one s cs (One key value) o a = absurd (o key value refl)
+not-one s cs More o a = a
+
+pub one_more : (c : Command) (b : Bool) (key value : ℕ) → b ≡ false → (c ≡ Nothing → ⊥) → More ≡ command_with c b key value
+one_more Nothing b key value e o = absurd (o refl)
+one_more (One k v) b key value e o = rw e
+one_more More b key value e o = rw e
+
+command-end : (s : List ℕ) (es rest : Entries) (c : Command) → rest ≡ done → CommandLeft s es rest c → AgreesFound s (commands es) c
 unfolding command_of commands
 command-end s es rest Nothing e l = λ n. rw (l ∙ ap commands e)
 command-end s es rest (One key value) e l = record { k = l.k; v = l.v; is = λ n. rw (l.is ∙ ap (λ (r : Entries). pair l.k l.v (commands r)) e); entry = l.entry }
 command-end s es rest More e l = l
 
-pub walk_end : {s : List ℕ} {to at : ℕ} {es : Entries} {f : StepFields} → Left s to at es f → to ≤ at → AgreesFields s es f
+-- where all stands
+pub record Ended (s : List ℕ) (es : Entries) (f : Places) : Type 0 where
+  pub name : Finds s (get (bytes "name") es) f.name
+  pub id : Finds s (get (bytes "id") es) f.id
+  pub timeout : Finds s (get (bytes "timeout") es) f.timeout
+  pub continue : Finds s (get (bytes "continue_on_error") es) f.continues
+  pub expect : Finds s (get (bytes "expect") es) f.expect
+  pub command : AgreesFound s (commands es) f.command
+
+pub walk_end : {s : List ℕ} {to at : ℕ} {es : Entries} {f : Places} → Left s to at es f → to ≤ at → Ended s es f
 walk_end {s} {es = es} {f = f} l m =
     let e = no_more l.rest m l.holds.lies in
     record {
@@ -117,15 +151,15 @@ module _ {s : List ℕ} {to at : ℕ} {p : Pair} (es : Entries) {rest : Entries}
       go true e = record { value = t.entry.v; is = here e; ranged = first-ranged t.entry h.ranged; stands = t.value }
       go false e = here e
 
-  command-on : (c : Command) → CommandLeft s es rest c → CommandLeft s es t.entry.others (command_with c (one_of (take (p.end - p.start) (drop p.start s)) step_fields) p.start p.end)
+  command-on : p.start ≤ p.end → (c : Command) → CommandLeft s es rest c → CommandLeft s es t.entry.others (command_with c (one_of (take (p.end - p.start) (drop p.start s)) step_fields) p.start p.end)
   unfolding commands command_of
-  command-on c l = go c (one_of (take (p.end - p.start) (drop p.start s)) step_fields) refl l
+  command-on o c l = go c (one_of (take (p.end - p.start) (drop p.start s)) step_fields) refl l
     where
       here : {b : Bool} → one_of (take (p.end - p.start) (drop p.start s)) step_fields ≡ b → commands rest ≡ (if b then commands t.entry.others else pair t.entry.k t.entry.v (commands t.entry.others))
       here e = ap commands t.entry.is ∙ rw (ap (λ (w : List ℕ). one_of w step_fields) (sym t.key_is) ∙ e)
 
       entry : EntryAt s p.start p.end t.entry.k t.entry.v
-      entry = record { key = t.key_is; ranged = first-ranged t.entry h.ranged; value = t.value }
+      entry = record { order = o; key = t.key_is; ranged = first-ranged t.entry h.ranged; value = t.value }
 
       go : (c : Command) (b : Bool) → one_of (take (p.end - p.start) (drop p.start s)) step_fields ≡ b → CommandLeft s es rest c → CommandLeft s es t.entry.others (command_with c b p.start p.end)
       go Nothing true e l = l ∙ here e
@@ -135,9 +169,9 @@ module _ {s : List ℕ} {to at : ℕ} {p : Pair} (es : Entries) {rest : Entries}
       go (One key value) false e l = λ n. rw (l.is ∙ ap (pair l.k l.v) (here e))
       go More false e l = l
 
-pub walk-on : {s : List ℕ} {to at : ℕ} {p : Pair} {es : Entries} {f : StepFields} (l : Left s to at es f) (t : Turn s at to l.rest p)
-    → Left s to p.next es (fields_with f (take (p.end - p.start) (drop p.start s)) p.start p.end)
-walk-on {es = es} {f = f} l t = record {
+pub walk-on : {s : List ℕ} {to at : ℕ} {p : Pair} {es : Entries} {f : Places} (l : Left s to at es f) (t : Turn s at to l.rest p) → p.start ≤ p.end
+    → Left s to p.next es (places_with f (take (p.end - p.start) (drop p.start s)) p.start p.end)
+walk-on {es = es} {f = f} l t o = record {
   rest = t.entry.others;
   holds = record { ranged = others-ranged t.entry l.holds.ranged; lies = t.behind };
   name = field-on es l.holds t (bytes "name") f.name l.name;
@@ -145,40 +179,18 @@ walk-on {es = es} {f = f} l t = record {
   timeout = field-on es l.holds t (bytes "timeout") f.timeout l.timeout;
   continue = field-on es l.holds t (bytes "continue_on_error") f.continues l.continue;
   expect = field-on es l.holds t (bytes "expect") f.expect l.expect;
-  command = command-on es l.holds t f.command l.command;
-}
-
--- ---- places
-
-field-inside : (s : List ℕ) (o : Found) (b : Bool) (value : ℕ) → value ≤ length s → FoundInside s o → FoundInside s (field_with o b value)
-field-inside s (found.At p) b value h i = i
-field-inside s found.Nothing true value h i = h
-field-inside s found.Nothing false value h i = tt
-
-command-inside : (s : List ℕ) (c : Command) (b : Bool) (key value : ℕ) → key ≤ value → value ≤ length s → CommandInside s c → CommandInside s (command_with c b key value)
-command-inside s c true key value k h i = i
-command-inside s Nothing false key value k h i = (k, h)
-command-inside s (One x y) false key value k h i = tt
-command-inside s More false key value k h i = tt
-
-pub inside_on : (s : List ℕ) (f : StepFields) (w : List ℕ) (key value : ℕ) → key ≤ value → value ≤ length s → FieldsInside s f → FieldsInside s (fields_with f w key value)
-inside_on s f w key value k h i = record {
-  name = field-inside s f.name (same w (bytes "name")) value h i.name;
-  id = field-inside s f.id (same w (bytes "id")) value h i.id;
-  timeout = field-inside s f.timeout (same w (bytes "timeout")) value h i.timeout;
-  continue = field-inside s f.continues (same w (bytes "continue_on_error")) value h i.continue;
-  expect = field-inside s f.expect (same w (bytes "expect")) value h i.expect;
-  command = command-inside s f.command (one_of w step_fields) key value k h i.command;
+  command = command-on es l.holds t o f.command l.command;
 }
 
 -- ---- how many commands
 
-pub not-one : (s : List ℕ) (cs : Entries) (c : Command) → ((key value : ℕ) → c ≡ One key value → ⊥) → AgreesCommand s cs c → (n : ℕ) → command_of n cs ≡ refused 34 0 n
-not-one s cs Nothing o a = a
-not-one s cs (One key value) o a = absurd (o key value refl)
-not-one s cs More o a = a
+-- the part of the one command's key
+pub command_part : {whole all : Bor (List ℕ)} (part : Part) {key value : ℕ} (cs : Entries) → all ≡ whole → part.bytes ≡ all → (key ≤ value → value ≤ length all.now → (part.from ≡ key) × (part.to ≡ value))
+    → OneCommand whole.now cs key value → AgreesCommand cs (Some part)
+command_part part cs b p places o =
+    let q = places o.entry.order (rw b (omega (arith, o.entry.value.within))) in
+    rw (p, b, q.0, q.1) o
 
-pub one_more : (c : Command) (b : Bool) (key value : ℕ) → b ≡ false → (c ≡ Nothing → ⊥) → More ≡ command_with c b key value
-one_more Nothing b key value e o = absurd (o refl)
-one_more (One k v) b key value e o = rw e
-one_more More b key value e o = rw e
+pub no-command : (s : List ℕ) (cs : Entries) {c : Command} → AgreesFound s cs c → (c ≡ Nothing) ⊎ (c ≡ More) → AgreesCommand cs None
+no-command s cs a (inl e) = subst (AgreesFound s cs) e a
+no-command s cs a (inr e) = subst (AgreesFound s cs) e a

@@ -1,14 +1,20 @@
 -- The step of a mapping: its refusals in their order, and where its parts stand. Assumes nothing.
-use Rattle.std.proofs.Common.{◌≡◌, refl, sym, ap, ◌∙◌, subst, ℕ, arith, List, Bool, not, true, false}
+use Rattle.std.proofs.Common.{◌≡◌, refl, sym, ap, ◌∙◌, subst, ℕ, ◌+◌, ◌-◌, arith, take, drop, List, Bool, not, true, false}
 use Rattle.std.proofs.Math.Option.{Option, none, some}
+use Rattle.std.specs.Prelude.{Option as Maybe, Some, None}
+use Rattle.std.specs.Option.{is_some}
+use Rattle.std.proofs.lemmas.Bool.{false≢true}
 use Rattle.refusal.specs.Base.{good, refused, ◌>>=◌, ◌>>◌, ensure, one_of, bytes}
 use Rattle.item.specs.Tree.{Yaml, null, bool, int, str, seq, dict, Entries, get}
 use Rattle.item.specs.Encode.{kind_of}
-use Rattle.item.specs.declared.Found.{Found}
-use Rattle.entries.specs.Entries.{Finds}
+use Rattle.entries.proofs.Standing.{stands_at}
+use Rattle.nodes.specs.declared.node.Node.{Node}
+use Rattle.nodes.specs.Contract.{IsNode, FindsNode}
 use Rattle.meaning.specs.Meaning.{built_in_steps}
 use Rattle.meaning.specs.Meanings.{scalar_at, or_empty, expect_of, commands, command_of, expect_allowed, is_true, step_of, step_at}
-use Rattle.step.specs.Contract.{mapping, ReadsStep, AgreesExpect, OneCommand, AgreesAllowed}
+use Rattle.step.specs.declared.parts.StepFields.{StepFields}
+use Rattle.step.specs.declared.parts.StepNodes.{StepNodes}
+use Rattle.step.specs.Contract.{mapping, ReadsStep, AgreesExpect, AgreesFields, OneCommand, AgreesAllowed}
 
 -- ---- 32
 
@@ -27,6 +33,14 @@ expect-is : (line n : ℕ) (m : Option Entries) → expect_of line n (mapping m)
 unfolding expect_of mapping
 expect-is line n none = refl
 expect-is line n (some es) = refl
+
+pub not-found : (o : Maybe Node) {v : Option Yaml} → is_some o ≡ false → FindsNode v o → v ≡ none
+not-found None e f = f
+not-found (Some node) e f = absurd (false≢true (sym e))
+
+pub is-found : (o : Maybe Node) {v : Option Yaml} → is_some o ≡ true → FindsNode v o → (y : Yaml) × v ≡ some y
+is-found None e f = absurd (false≢true e)
+is-found (Some node) e f = (f.value, f.is)
 
 pub nothing-expected : (line n : ℕ) (k : List ℕ) (m : Option Entries) → mapping m ≡ none → expect_allowed line n k m ≡ ensure true 35 line n
 unfolding expect_allowed mapping ensure
@@ -53,9 +67,9 @@ module _ (line n : ℕ) (es : Entries) where
     unfolding step_of ◌>>=◌
     step-34 c = rw (fits, c)
 
-    module _ {s : List ℕ} {key value : ℕ} (o : OneCommand s (commands es) key value) (place : Found) (f : Finds s (get (bytes "expect") es) place) (b : Bool) (a : AgreesAllowed s place key value b) where
-      found : Finds s (mapping x.0) place
-      found = subst (λ (y : Option Yaml). Finds s y place) x.1 f
+    module _ {s : List ℕ} {key value : ℕ} (o : OneCommand s (commands es) key value) {fields : StepFields} (f : AgreesFields es fields) (b : Bool) (a : AgreesAllowed fields.expect (take (value - key) (drop key s)) b) where
+      found : FindsNode (mapping x.0) fields.expect
+      found = subst (λ (y : Option Yaml). FindsNode y fields.expect) x.1 f.expect
 
       allowed : expect_allowed line n o.k x.0 ≡ ensure b 35 line n
       allowed = ap (λ (k : List ℕ). expect_allowed line n k x.0) (sym o.entry.key) ∙ a line n x.0 found
@@ -64,27 +78,30 @@ module _ (line n : ℕ) (es : Entries) where
       unfolding step_of ◌>>=◌ ◌>>◌ ensure
       step-35 e = rw (fits, o.is n, allowed, e)
 
-      pub step-read : b ≡ true → {name id timeout continues : Found} → Finds s (get (bytes "name") es) name → Finds s (get (bytes "id") es) id
-          → Finds s (get (bytes "timeout") es) timeout → Finds s (get (bytes "continue_on_error") es) continues
-          → ReadsStep s (step_of line n es) (record { name = name; id = id; key = key; value = value; timeout = timeout; continues = continues; expect = place })
+      pub step-read : b ≡ true → (node : StepNodes) → node.fields ≡ fields → node.key.now ≡ take (value - key) (drop key s) → IsNode o.v node.value → node.value.bytes.now ≡ s → node.value.item.from ≡ value + 6
+          → ReadsStep (step_of line n es) node
       unfolding step_of ◌>>=◌ ◌>>◌ ensure scalar_at
-      step-read e names ids timeouts flags = record {
-        step = record {
-          name = or_empty (scalar_at (bytes "name") es);
-          id = or_empty (scalar_at (bytes "id") es);
-          key = o.k;
-          value = o.v;
-          timeout = scalar_at (bytes "timeout") es;
-          continue = is_true (get (bytes "continue_on_error") es);
-          expect = x.0;
-        };
-        is = rw (fits, o.is n, allowed, e);
-        stands = record {
-          name = record { value = get (bytes "name") es; found = names; is = refl };
-          id = record { value = get (bytes "id") es; found = ids; is = refl };
-          command = o.entry;
-          timeout = record { value = get (bytes "timeout") es; found = timeouts; is = refl };
-          continue = record { value = get (bytes "continue_on_error") es; found = flags; is = refl };
-          expect = found;
-        };
-      }
+      step-read e node p k v w at =
+          let g = rw (← p) at f in
+          record {
+            step = record {
+              name = or_empty (scalar_at (bytes "name") es);
+              id = or_empty (scalar_at (bytes "id") es);
+              key = o.k;
+              value = o.v;
+              timeout = scalar_at (bytes "timeout") es;
+              continue = is_true (get (bytes "continue_on_error") es);
+              expect = x.0;
+            };
+            is = rw (fits, o.is n, allowed, e);
+            stands = record {
+              name = record { value = get (bytes "name") es; found = g.name; is = refl };
+              id = record { value = get (bytes "id") es; found = g.id; is = refl };
+              key = k ∙ o.entry.key;
+              value = v;
+              whole = rw w (stands_at (omega (arith, at)) o.entry.value);
+              timeout = record { value = get (bytes "timeout") es; found = g.timeout; is = refl };
+              continue = record { value = get (bytes "continue_on_error") es; found = g.continue; is = refl };
+              expect = rw p found;
+            };
+          }

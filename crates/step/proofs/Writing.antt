@@ -1,38 +1,35 @@
 -- What is written of the parts of a step. Assumes nothing.
-use Rattle.std.proofs.Common.{◌≡◌, refl, sym, ap, ◌∙◌, ℕ, ◌-◌, List, append-nil, Bool, take, drop}
+use Rattle.std.proofs.Common.{◌≡◌, refl, sym, ap, ◌∙◌, ℕ, List, append-nil, Bool}
+use Rattle.std.specs.Prelude.{Option as Maybe, Some}
 use Rattle.std.proofs.Math.Option.{Option, none, some}
 use Rattle.refusal.specs.Base.{maybe}
-use Rattle.item.specs.Tree.{Yaml, bool, Entries}
+use Rattle.item.specs.Tree.{bool, Entries}
 use Rattle.item.specs.Encode.{item, encode}
-use Rattle.item.specs.declared.Found.{Found}
-use Rattle.item.specs.declared.Found.TheVariants as found
-use Rattle.entries.specs.Entries.{Finds}
+use Rattle.nodes.specs.declared.node.Node.{Node}
 use Rattle.nodes.specs.declared.output.RecordWriter.{RecordWriter}
 use Rattle.nodes.specs.Writing.{Writes, Opens, Closes}
-use Rattle.nodes.specs.Contract.{ReadsFound, or_null}
+use Rattle.nodes.specs.Contract.{FindsNode, ReadsFound, or_null}
 use Rattle.nodes.proofs.Writing.{writes_is, writes_more, writes_item}
 use Rattle.meaning.specs.Meaning.{Step}
 use Rattle.meaning.specs.Meanings.{is_true}
 use Rattle.meaning.specs.Record.{joined, optional, expected, text_item, step_parts, step_item}
-use Rattle.step.specs.Contract.{EntryAt, mapping}
+use Rattle.step.specs.declared.parts.StepNodes.{StepNodes}
+use Rattle.step.specs.Contract.{StepStands, mapping}
 
--- ---- the command
+-- ---- the parts
 
-module _ {s : List ℕ} {key value : ℕ} {k : List ℕ} {v : Yaml} (e : EntryAt s key value k v) where
-  pub key_item : item 3 (take (value - key) (drop key s)) ≡ text_item k
-  unfolding text_item encode
-  key_item = ap (item 3) e.key
+pub key_item : {s k : List ℕ} → s ≡ k → item 3 s ≡ text_item k
+unfolding text_item encode
+key_item e = ap (item 3) e
 
-  pub value-read : ReadsFound s or_null (found.At value) v
-  unfolding maybe
-  value-read = record { value = some v; found = record { value = v; is = refl; ranged = e.ranged; stands = e.value }; is = refl }
+pub value-read : {step : Step} {n : StepNodes} → StepStands step n → ReadsFound or_null (Some n.value) step.value
+unfolding maybe
+value-read {step} r = record { value = some step.value; found = record { value = step.value; is = refl; node_is = r.value; whole = r.whole }; is = refl }
 
--- ---- what stands behind it
-
-pub flag_item : {s : List ℕ} {place : Found} {flag b : Bool} (r : ReadsFound s is_true place flag) → b ≡ is_true r.value → encode (bool b) ≡ encode (bool flag)
+pub flag_item : {place : Maybe Node} {flag b : Bool} (r : ReadsFound is_true place flag) → b ≡ is_true r.value → encode (bool b) ≡ encode (bool flag)
 flag_item r e = ap (λ (x : Bool). encode (bool x)) (e ∙ sym r.is)
 
-pub expected-read : {s : List ℕ} {place : Found} (m : Option Entries) → Finds s (mapping m) place → ReadsFound s or_null place (expected m)
+pub expected-read : {place : Maybe Node} (m : Option Entries) → FindsNode (mapping m) place → ReadsFound or_null place (expected m)
 unfolding maybe expected mapping
 expected-read none f = record { value = none; found = f; is = refl }
 expected-read (some es) f = record { value = mapping (some es); found = f; is = refl }

@@ -1,6 +1,6 @@
 -- Section 4 of document 01, for contracts: what the readers and the writers of a step promise. Uses Base and Told of `refusal`; Tree and
 -- Encode of `item`; Entries of `entries`; Meaning and Meanings of `meaning`; Contract of `nodes`. Assumes nothing.
-use Rattle.std.specs.Prelude.{◌≡◌, ℕ, ◌-◌, ◌≤◌, List, Bool, true, false, length, take, drop, Result, Ok, Err}
+use Rattle.std.specs.Prelude.{◌≡◌, ℕ, ◌-◌, ◌≤◌, List, Bool, true, false, take, drop, Result, Ok, Err, Option as Maybe, Some, None}
 use Rattle.std.proofs.Math.Option.{Option, none, some}
 use Rattle.refusal.specs.Base.{Answer, good, refused, ensure, bytes}
 use Rattle.refusal.specs.Told.{refusal}
@@ -9,55 +9,68 @@ use Rattle.item.specs.Tree.{Yaml, dict, Entries, Ranged, get}
 use Rattle.item.specs.Encode.{encode}
 use Rattle.item.specs.declared.Found.{Found}
 use Rattle.item.specs.declared.Found.TheVariants as found
-use Rattle.entries.specs.Entries.{Stands, Finds, FoundInside}
-use Rattle.nodes.specs.Contract.{ReadsFound, scalar_text, text_or_empty}
+use Rattle.item.specs.declared.encoded.Part.{Part}
+use Rattle.entries.specs.Entries.{Stands}
+use Rattle.nodes.specs.declared.node.Node.{Node}
+use Rattle.nodes.specs.Contract.{IsNode, NodeOf, FindsNode, ReadsFound, scalar_text, text_or_empty}
 use Rattle.meaning.specs.Meaning.{Step}
 use Rattle.meaning.specs.Meanings.{expect_of, commands, command_of, expect_allowed, is_true}
 use Rattle.step.specs.declared.Command.{Command}
 use Rattle.step.specs.declared.Command.TheVariants.{Nothing, One, More}
-use Rattle.step.specs.declared.StepFields.{StepFields}
-use Rattle.step.specs.declared.StepPlaces.{StepPlaces}
+use Rattle.step.specs.declared.parts.StepFields.{StepFields}
+use Rattle.step.specs.declared.parts.StepNodes.{StepNodes}
+use Rattle.step.specs.declared.StepEntries.{StepEntries}
 
--- ---- a step by its places
-
--- an entry: the text of its key, and behind it its value
-pub record EntryAt (s : List ℕ) (start end : ℕ) (k : List ℕ) (v : Yaml) : Type 0 where
-  pub key : take (end - start) (drop start s) ≡ k
-  pub ranged : Ranged v
-  pub value : Stands s end (encode v)
+-- ---- a step by its values
 
 -- a key's value that is absent or a mapping
 unfoldable pub mapping : Option Entries → Option Yaml
 mapping none = none
 mapping (some es) = some (dict es)
 
-pub record StepStands (s : List ℕ) (step : Step) (p : StepPlaces) : Type 0 where
-  pub name : ReadsFound s text_or_empty p.name step.name
-  pub id : ReadsFound s text_or_empty p.id step.id
-  pub command : EntryAt s p.key p.value step.key step.value
-  pub timeout : ReadsFound s scalar_text p.timeout step.timeout
-  pub continue : ReadsFound s is_true p.continues step.continue
-  pub expect : Finds s (mapping step.expect) p.expect
+pub record StepStands (step : Step) (n : StepNodes) : Type 0 where
+  pub name : ReadsFound text_or_empty n.fields.name step.name
+  pub id : ReadsFound text_or_empty n.fields.id step.id
+  pub key : n.key.now ≡ step.key
+  pub value : IsNode step.value n.value
+  pub whole : Stands n.value.bytes.now (n.value.item.from - 6) (encode step.value)
+  pub timeout : ReadsFound scalar_text n.fields.timeout step.timeout
+  pub continue : ReadsFound is_true n.fields.continues step.continue
+  pub expect : FindsNode (mapping step.expect) n.fields.expect
 
--- a reading, and where the parts of the step stand that it gives
-pub record ReadsStep (s : List ℕ) (answer : Answer Step) (p : StepPlaces) : Type 0 where
+-- a reading, and the values of the step that it gives
+pub record ReadsStep (answer : Answer Step) (n : StepNodes) : Type 0 where
   pub step : Step
   pub is : answer ≡ good step
-  pub stands : StepStands s step p
+  pub stands : StepStands step n
 
-abbrev pub AgreesStep : List ℕ → Answer Step → Result StepPlaces Refusal → Type 0
-AgreesStep s answer (Ok p) = ReadsStep s answer p
-AgreesStep s answer (Err e) = answer ≡ refusal e
+abbrev pub AgreesStep : Answer Step → Result StepNodes Refusal → Type 0
+AgreesStep answer (Ok n) = ReadsStep answer n
+AgreesStep answer (Err e) = answer ≡ refusal e
 
--- places in the bytes, whatever they are
-pub record StepPlacesInside (s : List ℕ) (p : StepPlaces) : Type 0 where
-  pub name : FoundInside s p.name
-  pub id : FoundInside s p.id
-  pub key : p.key ≤ p.value
-  pub value : p.value ≤ length s
-  pub timeout : FoundInside s p.timeout
-  pub continue : FoundInside s p.continues
-  pub expect : FoundInside s p.expect
+-- nodes of these bytes, whatever they are
+pub record FieldsInside (s : List ℕ) (f : StepFields) : Type 0 where
+  pub name : NodeOf s f.name
+  pub id : NodeOf s f.id
+  pub timeout : NodeOf s f.timeout
+  pub continue : NodeOf s f.continues
+  pub expect : NodeOf s f.expect
+
+abbrev pub CommandInside : List ℕ → Maybe Part → Type 0
+CommandInside s (Some key) = key.bytes.now ≡ s
+CommandInside s None = Unit {0}
+
+pub record EntriesInside (s : List ℕ) (e : StepEntries) : Type 0 where
+  pub fields : FieldsInside s e.fields
+  pub command : CommandInside s e.command
+
+-- the same of a step, whose key stands in front of its value
+pub record StepInside (s : List ℕ) (n : StepNodes) : Type 0 where
+  pub fields : FieldsInside s n.fields
+  pub value : n.value.bytes.now ≡ s
+  pub start : ℕ
+  pub order : start ≤ n.value.item.from - 6
+  pub key : n.key.now ≡ take (n.value.item.from - 6 - start) (drop start s)
 
 -- ---- 33
 
@@ -67,6 +80,13 @@ AgreesExpect o false = (line n : ℕ) → expect_of line n o ≡ refused 33 line
 
 -- ---- 34
 
+-- an entry: the text of its key, and behind it its value
+pub record EntryAt (s : List ℕ) (start end : ℕ) (k : List ℕ) (v : Yaml) : Type 0 where
+  pub order : start ≤ end
+  pub key : take (end - start) (drop start s) ≡ k
+  pub ranged : Ranged v
+  pub value : Stands s end (encode v)
+
 -- the one command
 pub record OneCommand (s : List ℕ) (cs : Entries) (key value : ℕ) : Type 0 where
   pub k : List ℕ
@@ -74,15 +94,9 @@ pub record OneCommand (s : List ℕ) (cs : Entries) (key value : ℕ) : Type 0 w
   pub is : (n : ℕ) → command_of n cs ≡ good (k, v)
   pub entry : EntryAt s key value k v
 
-abbrev pub AgreesCommand : List ℕ → Entries → Command → Type 0
-AgreesCommand s cs (One key value) = OneCommand s cs key value
-AgreesCommand s cs Nothing = (n : ℕ) → command_of n cs ≡ refused 34 0 n
-AgreesCommand s cs More = (n : ℕ) → command_of n cs ≡ refused 34 0 n
-
-abbrev pub CommandInside : List ℕ → Command → Type 0
-CommandInside s (One key value) = (key ≤ value) × (value ≤ length s)
-CommandInside s Nothing = Unit {0}
-CommandInside s More = Unit {0}
+abbrev pub AgreesCommand : Entries → Maybe Part → Type 0
+AgreesCommand cs (Some key) = OneCommand key.bytes.now cs key.from key.to
+AgreesCommand cs None = (n : ℕ) → command_of n cs ≡ refused 34 0 n
 
 -- ---- the fields of entries
 
@@ -99,25 +113,18 @@ command_with (One k v) false key value = More
 command_with More false key value = More
 
 -- what is known of entries
-pub record AgreesFields (s : List ℕ) (es : Entries) (f : StepFields) : Type 0 where
-  pub name : Finds s (get (bytes "name") es) f.name
-  pub id : Finds s (get (bytes "id") es) f.id
-  pub timeout : Finds s (get (bytes "timeout") es) f.timeout
-  pub continue : Finds s (get (bytes "continue_on_error") es) f.continues
-  pub expect : Finds s (get (bytes "expect") es) f.expect
-  pub command : AgreesCommand s (commands es) f.command
+pub record AgreesFields (es : Entries) (f : StepFields) : Type 0 where
+  pub name : FindsNode (get (bytes "name") es) f.name
+  pub id : FindsNode (get (bytes "id") es) f.id
+  pub timeout : FindsNode (get (bytes "timeout") es) f.timeout
+  pub continue : FindsNode (get (bytes "continue_on_error") es) f.continues
+  pub expect : FindsNode (get (bytes "expect") es) f.expect
 
--- places in the bytes, whatever they are
-pub record FieldsInside (s : List ℕ) (f : StepFields) : Type 0 where
-  pub name : FoundInside s f.name
-  pub id : FoundInside s f.id
-  pub timeout : FoundInside s f.timeout
-  pub continue : FoundInside s f.continues
-  pub expect : FoundInside s f.expect
-  pub command : CommandInside s f.command
+pub record AgreesEntries (es : Entries) (e : StepEntries) : Type 0 where
+  pub fields : AgreesFields es e.fields
+  pub command : AgreesCommand (commands es) e.command
 
 -- ---- 35
 
-abbrev pub AgreesAllowed : List ℕ → Found → ℕ → ℕ → Bool → Type 0
-AgreesAllowed s expect key value r =
-    (line n : ℕ) (m : Option Entries) → Finds s (mapping m) expect → expect_allowed line n (take (value - key) (drop key s)) m ≡ ensure r 35 line n
+abbrev pub AgreesAllowed : Maybe Node → List ℕ → Bool → Type 0
+AgreesAllowed expect key r = (line n : ℕ) (m : Option Entries) → FindsNode (mapping m) expect → expect_allowed line n key m ≡ ensure r 35 line n

@@ -1,36 +1,25 @@
-// A step in the bytes of its mapping: read as the places of its parts, which writes nothing, and written from them as its item.
+// A step in the bytes of its mapping: read as its values where they stand, which writes nothing, and written from them as its item.
 #![tactic(auto)]
 
-ghost use Rattle.std.specs.Prelude.{◌≡◌, ◌≤◌, ◌^◌, IfOk, length};
+ghost use Rattle.std.specs.Prelude.{◌≡◌, ◌^◌, IfOk};
 ghost use Rattle.std.proofs.Math.Option.{Option};
-ghost use Rattle.item.specs.Tree.{Yaml, Entries, Ranged};
-ghost use Rattle.item.specs.Encode.{encode};
-ghost use Rattle.entries.specs.Entries.{Stands, Holds, Finds};
+ghost use Rattle.item.specs.Tree.{Yaml, Entries};
+ghost use Rattle.entries.specs.Entries.{HoldsIn};
 ghost use Rattle.nodes.specs.Writing.{GoesAtMost, Writes};
-ghost use Rattle.nodes.specs.Contract.{IsItem, AgreesPart};
+ghost use Rattle.nodes.specs.Contract.{IsNode, FindsNode, AgreesPart};
 ghost use Rattle.meaning.specs.Meaning.{Step};
 ghost use Rattle.meaning.specs.Record.{step_item};
 ghost use Rattle.meaning.specs.Meanings.{is_true, step_of, step_at};
-ghost use Rattle.step.specs.Contract.{StepStands, AgreesStep, StepPlacesInside, AgreesExpect, field_with, command_with};
-ghost use Rattle.step.specs.Contract.{FieldsInside, AgreesFields, AgreesAllowed};
+ghost use Rattle.step.specs.Contract.{StepStands, AgreesStep, AgreesExpect, AgreesAllowed, AgreesEntries, EntriesInside, StepInside, field_with, command_with};
+
+mod parts;
 
 use entries::Pair;
-use item::{Encoded, Found, Item, Kind, Part, header_at, same_bytes};
+use item::{Found, Kind, Part, same_bytes};
 use meaning::is_built_in;
-use nodes::{RecordWriter, item_found, put_found, put_optional, put_value};
+use nodes::{Node, RecordWriter, Scalar, put_optional, put_text, put_value};
+pub use parts::{StepFields, StepNodes};
 use refusal::Refusal;
-
-/// Where the parts of a step stand. The text of the command's key goes from `key` to `value`, where the item of its value begins.
-#[derive(Clone, Copy, Debug, PartialEq, Eq)]
-pub struct StepPlaces {
-    pub name: Found,
-    pub id: Found,
-    pub key: usize,
-    pub value: usize,
-    pub timeout: Found,
-    pub continues: Found,
-    pub expect: Found,
-}
 
 // The entries whose key is no step field: none, one, or more.
 #[derive(Clone, Copy, Debug, PartialEq, Eq)]
@@ -40,18 +29,15 @@ enum Command {
     More,
 }
 
-// What entries say: where the value of each step field stands, the first of its key, and the command.
-#[derive(Clone, Copy, Debug, PartialEq, Eq)]
-struct StepFields {
-    name: Found,
-    id: Found,
-    timeout: Found,
-    continues: Found,
-    expect: Found,
-    command: Command,
+// What entries say: the step fields, and where the key of the command stands, if there is one command. Its value begins where the key ends.
+#[derive(Clone, Copy, Debug)]
+struct StepEntries<'a> {
+    fields: StepFields<'a>,
+    command: Option<Part<'a>>,
 }
 
-// A field with one entry more: `same` says whether the entry has the field's key.
+// A field with one entry more: `same` says whether the entry has the field's key. A Boolean, as in the definition: the walk asks each word
+// once, so `Found` stays two words.
 fn field_with(field: Found, same: bool, value: usize) -> Found
     ensures { result ≡ field_with field same value }
 {
@@ -61,7 +47,7 @@ fn field_with(field: Found, same: bool, value: usize) -> Found
     }
 }
 
-// The command with one entry more: `is_field` says whether the entry has the key of a step field.
+// The command with one entry more: `is_field` says whether the entry has the key of a step field, which the walk has asked once for both.
 fn command_with(command: Command, is_field: bool, key: usize, value: usize) -> Command
     ensures { result ≡ command_with command is_field key value }
 {
@@ -75,12 +61,11 @@ fn command_with(command: Command, is_field: bool, key: usize, value: usize) -> C
 }
 
 // What the entries of a part say, in one walk. What was found so far stands in locals, since a struct handed on was slower: it is
-// copied at each entry.
+// copied at each entry. It is places, two words each, until the walk is over.
 #[tactic(auto, using(entries::proofs::Walking::places_of))]
-fn fields_in(part: Part<'_>) -> StepFields
-    ensures inside { FieldsInside part.entry.bytes.now result }
-    ensures fields { (es : Entries) → Holds part.entry.bytes.now part.entry.from part.entry.to es
-        → AgreesFields part.entry.bytes.now es result }
+fn entries_in(part: Part<'_>) -> StepEntries<'_>
+    ensures inside { EntriesInside part.entry.bytes.now result }
+    ensures entries { (es : Entries) → HoldsIn part.entry es → AgreesEntries es result }
 {
     let mut name = Found::Nothing;
     let mut id = Found::Nothing;
@@ -106,132 +91,122 @@ fn fields_in(part: Part<'_>) -> StepFields
         expect = field_with(expect, is_expect, pair.end);
         command = command_with(command, is_field, pair.start, pair.end);
     }
-    StepFields {
+    let s = part.encoded();
+    StepEntries {
+        fields: StepFields {
+            name: Node::found(s, name),
+            id: Node::found(s, id),
+            timeout: Node::found(s, timeout),
+            continues: Node::found(s, continues),
+            expect: Node::found(s, expect),
+        },
+        command: match command {
+            Command::One { key, value } => Some(s.part(key, value)),
+            Command::Nothing | Command::More => None,
+        },
+    }
+}
+
+// Whether `expect` is absent or a mapping.
+fn expect_fits(expect: Option<Node<'_>>) -> bool
+    ensures { (o : Option Yaml) → FindsNode o expect.entry → AgreesExpect o result }
+{
+    expect.is_none_or(|node| node.is(Kind::Map))
+}
+
+// Whether `expect` is absent or this key is no built-in command.
+fn expect_allowed(expect: Option<Node<'_>>, key: &[u8]) -> bool
+    ensures { AgreesAllowed expect.entry key.now result }
+{
+    expect.is_none() || !is_built_in(key)
+}
+
+// The step of the entries of a part.
+fn read_entries(part: Part<'_>, line: u32, number: u32) -> Result<StepNodes<'_>, Refusal>
+    ensures inside { IfOk result (StepInside part.entry.bytes.now) }
+    ensures step { (es : Entries) → HoldsIn part.entry es → AgreesStep (step_of line number es) result }
+{
+    let StepEntries { fields, command } = entries_in(part);
+    let fits = expect_fits(fields.expect);
+    if !fits {
+        return Err(Refusal::ExpectNotMapping { line, step: number });
+    }
+    let Some(command) = command else {
+        return Err(Refusal::NotOneCommand { step: number });
+    };
+    let key = &command.bytes[command.from..command.to];
+    let allowed = expect_allowed(fields.expect, key);
+    if !allowed {
+        return Err(Refusal::ExpectBesideBuiltIn { line, step: number });
+    }
+    // The walk has read this header, so it does not happen.
+    let Some(value) = Node::at(command.encoded(), command.to) else {
+        return Err(Refusal::NotOneCommand { step: number });
+    };
+    Ok(StepNodes { fields, key, value })
+}
+
+/// The step that a value is, in this line and with this number.
+// The two go side by side, as each refusal and the definition `step_at` name them: a struct would be taken apart again three times.
+pub fn read_step(node: Node<'_>, line: u32, number: u32) -> Result<StepNodes<'_>, Refusal>
+    ensures inside { IfOk result (StepInside node.entry.bytes.now) }
+    ensures step { (y : Yaml) → IsNode y node.entry → AgreesStep (step_at line number y) result }
+{
+    let Some(entries) = node.mapping() else {
+        return Err(Refusal::StepNotMapping { step: number });
+    };
+    read_entries(entries, line, number)
+}
+
+// Whether a value is the boolean true. Each scalar has an arm: of a `_` the proof does not know which one it may be.
+fn is_true(node: Option<Node<'_>>) -> bool
+    ensures { (o : Option Yaml) → FindsNode o node.entry → result ≡ is_true o }
+{
+    let Some(node) = node else {
+        return false;
+    };
+    match node.scalar() {
+        Some(Scalar::Bool(value)) => value,
+        Some(Scalar::Int(_)) => false,
+        Some(Scalar::Str(_)) => false,
+        None => false,
+    }
+}
+
+// The item of a step.
+fn put_step(step: StepNodes<'_>, writer: &mut RecordWriter<'_>)
+    ensures goes { GoesAtMost (2 ^ 24) writer.old writer.new }
+    ensures step { (read : Step) → StepStands read step.entry → Writes writer.old writer.new (step_item read) }
+{
+    let StepFields {
         name,
         id,
         timeout,
         continues,
         expect,
-        command,
-    }
-}
-
-// Whether `expect` is absent or a mapping.
-fn expect_fits(s: Encoded<'_>, expect: Found) -> bool
-    ensures { (o : Option Yaml) → Finds s.entry.bytes.now o expect → AgreesExpect o result }
-{
-    let Some(item) = item_found(s, expect) else {
-        return true;
-    };
-    item.kind == Kind::Map as usize
-}
-
-// Whether `expect` is absent or the key from `key` to `value` is no built-in command.
-fn expect_allowed(s: Encoded<'_>, expect: Found, key: usize, value: usize) -> bool
-    requires { (key ≤ value) × (value ≤ length s.bytes.now) }
-    ensures { AgreesAllowed s.entry.bytes.now expect key value result }
-{
-    if let Found::Nothing = expect {
-        return true;
-    }
-    !is_built_in(&s.bytes[key..value])
-}
-
-// The step of the entries of a part.
-fn read_entries(part: Part<'_>, line: u32, number: u32) -> Result<StepPlaces, Refusal>
-    ensures inside { IfOk result (StepPlacesInside part.entry.bytes.now) }
-    ensures step { (es : Entries) → Holds part.entry.bytes.now part.entry.from part.entry.to es
-        → AgreesStep part.entry.bytes.now (step_of line number es) result }
-{
-    let s = part.encoded();
-    let fields = fields_in(part);
-    if !expect_fits(s, fields.expect) {
-        return Err(Refusal::ExpectNotMapping { line, step: number });
-    }
-    let Command::One { key, value } = fields.command else {
-        return Err(Refusal::NotOneCommand { step: number });
-    };
-    if !expect_allowed(s, fields.expect, key, value) {
-        return Err(Refusal::ExpectBesideBuiltIn { line, step: number });
-    }
-    Ok(StepPlaces {
-        name: fields.name,
-        id: fields.id,
-        key,
-        value,
-        timeout: fields.timeout,
-        continues: fields.continues,
-        expect: fields.expect,
-    })
-}
-
-fn read_item(s: Encoded<'_>, item: Item, line: u32, number: u32) -> Result<StepPlaces, Refusal>
-    ensures inside { IfOk result (StepPlacesInside s.entry.bytes.now) }
-    ensures step { (y : Yaml) → Ranged y → IsItem s.entry.bytes.now y item → AgreesStep s.entry.bytes.now (step_at line number y) result }
-{
-    let is_mapping = item.kind == Kind::Map as usize;
-    if !is_mapping {
-        return Err(Refusal::StepNotMapping { step: number });
-    }
-    read_entries(s.part(item.from, item.to), line, number)
-}
-
-/// The step at the item `i`, in this line and with this number.
-pub fn read_step(s: Encoded<'_>, i: usize, line: u32, number: u32) -> Result<StepPlaces, Refusal>
-    ensures inside { IfOk result (StepPlacesInside s.entry.bytes.now) }
-    ensures step { (y : Yaml) → Ranged y → Stands s.entry.bytes.now i (encode y)
-        → AgreesStep s.entry.bytes.now (step_at line number y) result }
-{
-    let Ok(item) = header_at(s.bytes, i) else {
-        return Err(Refusal::StepNotMapping { step: number });
-    };
-    read_item(s, item, line, number)
-}
-
-// Whether a key's value is the boolean true.
-fn is_true(s: Encoded<'_>, found: Found) -> bool
-    ensures { (o : Option Yaml) → Finds s.entry.bytes.now o found → result ≡ is_true o }
-{
-    let Some(item) = item_found(s, found) else {
-        return false;
-    };
-    let is_bool = item.kind == Kind::Bool as usize;
-    if is_bool && item.from < item.to {
-        return s.bytes[item.from] == 1;
-    }
-    false
-}
-
-// The item of the step whose parts stand at these places.
-fn put_step(s: Encoded<'_>, places: StepPlaces, writer: &mut RecordWriter<'_>)
-    requires { (places.key ≤ places.value) × (places.value ≤ length s.bytes.now) }
-    ensures goes { GoesAtMost (2 ^ 24) writer.old writer.new }
-    ensures step { (step : Step) → StepStands s.entry.bytes.now step places → Writes writer.old writer.new (step_item step) }
-{
+    } = step.fields;
     let header = writer.open();
-    put_found(s, places.name, writer);
-    put_found(s, places.id, writer);
-    writer.text(&s.bytes[places.key..places.value]);
-    put_value(s, Found::At(places.value), writer);
-    put_optional(s, places.timeout, writer);
-    writer.bool(is_true(s, places.continues));
-    put_value(s, places.expect, writer);
+    put_text(name, writer);
+    put_text(id, writer);
+    writer.text(step.key);
+    put_value(Some(step.value), writer);
+    put_optional(timeout, writer);
+    writer.bool(is_true(continues));
+    put_value(expect, writer);
     writer.close(header, Kind::Step);
 }
 
-/// The step that an item is, in this line and with this number, written as its item.
+/// The step that a value is, in this line and with this number, written as its item.
 pub fn step_at(
-    s: Encoded<'_>,
-    item: Item,
+    node: Node<'_>,
     line: u32,
     number: u32,
     writer: &mut RecordWriter<'_>,
 ) -> Result<(), Refusal>
     ensures goes { GoesAtMost (2 ^ 24) writer.old writer.new }
-    ensures step { (y : Yaml) → Ranged y → IsItem s.entry.bytes.now y item
-        → AgreesPart (step_at line number y) step_item writer.old writer.new result }
+    ensures step { (y : Yaml) → IsNode y node.entry → AgreesPart (step_at line number y) step_item writer.old writer.new result }
 {
-    let places = read_item(s, item, line, number)?;
-    put_step(s, places, writer);
+    let step = read_step(node, line, number)?;
+    put_step(step, writer);
     Ok(())
 }

@@ -1,5 +1,6 @@
 -- Step lines by the entries of the table. Assumes nothing.
-use Rattle.std.proofs.Common.{◌≡◌, sym, ap, ◌∙◌, ℕ, ◌+◌, ◌≤◌, ◌<◌, arith, List, [], ◌∷◌, true, false, length, drop, eq-eqb, ne_eqb, lt-ltb, le-ltb}
+use Rattle.std.specs.Prelude.{Option, Some, None, MatchOption}
+use Rattle.std.proofs.Common.{◌≡◌, refl, sym, ap, ◌∙◌, ℕ, zero, suc, add-one, ◌+◌, ◌≤◌, ◌<◌, arith, List, [], ◌∷◌, true, false, length, drop, eq-eqb, ne_eqb, lt-ltb, le-ltb}
 use Rattle.refusal.specs.Base.{bytes, same}
 use Rattle.lines.specs.Lines.{Line}
 use Rattle.lines.specs.Table.{line_at}
@@ -22,17 +23,28 @@ module _ (l : Line) where
 module _ (ls : List Line) where
   -- ---- the line of the steps
 
-  pub steps_here : (i : ℕ) → i < length ls → is_steps (line_at ls i) ≡ true → behind_steps (drop i ls) ≡ drop (i + 1) ls
+  steps_here : (i : ℕ) → i < length ls → is_steps (line_at ls i) ≡ true → behind_steps (drop i ls) ≡ drop (i + 1) ls
   unfolding behind_steps
   steps_here i h e = ap behind_steps (lines_next ls i h) ∙ rw e
 
-  pub steps_on : (i : ℕ) → i < length ls → is_steps (line_at ls i) ≡ false → behind_steps (drop i ls) ≡ behind_steps (drop (i + 1) ls)
+  steps_on : (i : ℕ) → i < length ls → is_steps (line_at ls i) ≡ false → behind_steps (drop i ls) ≡ behind_steps (drop (i + 1) ls)
   unfolding behind_steps
   steps_on i h e = ap behind_steps (lines_next ls i h) ∙ rw e
 
-  pub steps_none : (i : ℕ) → i ≡ length ls → behind_steps (drop i ls) ≡ drop i ls
+  steps_none : (i : ℕ) → i ≡ length ls → behind_steps (drop i ls) ≡ drop i ls
   unfolding behind_steps
   steps_none i e = ap behind_steps (lines_end ls i e) ∙ sym (lines_end ls i e)
+
+  steps-kept : (i : ℕ) → i ≤ length ls → ((k : ℕ) → 0 ≤ k → k < i → is_steps (line_at ls k) ≡ false) → behind_steps ls ≡ behind_steps (drop i ls)
+  steps-kept zero h f = refl
+  steps-kept (suc i) h f = rw (← add-one i) (steps-kept i (omega arith) (λ k l m. f k l (omega arith)) ∙ steps_on i (omega arith) (f i (omega arith) (omega arith)))
+
+  -- by what a search for the line finds
+  pub by-search : (r : Option ℕ) (n : ℕ) → n ≡ length ls
+      → MatchOption r ((k : ℕ) → 0 ≤ k → k < n → is_steps (line_at ls k) ≡ false) (λ i. (0 ≤ i) × (i < n) × (is_steps (line_at ls i) ≡ true) × ((k : ℕ) → 0 ≤ k → k < i → is_steps (line_at ls k) ≡ false))
+      → MatchOption r (drop (length ls) ls ≡ behind_steps ls) (λ i. (i < length ls) × (drop (i + 1) ls ≡ behind_steps ls))
+  by-search None n e f = sym (steps-kept (length ls) (omega arith) (λ k l h. f k l (omega arith)) ∙ steps_none (length ls) refl)
+  by-search (Some i) n e f = (omega (arith, f.1), sym (steps-kept i (omega (arith, f.1)) f.3 ∙ steps_here i (omega (arith, f.1)) f.2))
 
   pub begins_none : (d : Dashes) → d.at ≡ length ls → drop d.at ls ≡ behind_steps ls → Begins ls (length ls) d
   unfolding step_lines dashes_from dashes_at
@@ -78,6 +90,3 @@ module _ (ls : List Line) where
         let w : dashes_at indent (drop i ls) ≡ (line_at ls d).number ∷ dashes_at indent (drop (d + 1) ls) =
         v ∙ ap (dashes_at indent) (lines_next ls d h) ∙ rw (le-ltb (line_at ls d).indent indent k, e) in
         record { is = p ∙ sym (ap head_line w); others = ap (λ (n : ℕ). dashes_at indent (drop n ls)) q ∙ sym (ap tail_lines w); within = omega arith }
-
--- what the search tries in the walk to the line of the steps
-pub ruleset behind = (steps_here, steps_on, steps_none)

@@ -1,7 +1,7 @@
 // The lines of steps, among the lines of a text (document 01, section 4).
 #![tactic(auto)]
 
-ghost use Rattle.std.specs.Prelude.{◌≡◌, ◌≤◌, ◌<◌, length, drop};
+ghost use Rattle.std.specs.Prelude.{◌≡◌, ◌+◌, ◌≤◌, ◌<◌, length, drop, MatchOption};
 ghost use Rattle.lines.specs.Table.{line_at};
 ghost use Rattle.step_lines.specs.StepLines.{is_steps, behind_steps};
 ghost use Rattle.step_lines.specs.Contract.{Begins, Next};
@@ -9,14 +9,14 @@ ghost use Rattle.step_lines.specs.Contract.{Begins, Next};
 use item::same_bytes;
 use lines::Lines;
 
-/// Where the steps begin: the line, and its indentation.
+/// Where the steps begin: the line, and its indentation; the line behind the last, and 0, where there are none, since no dash stands there.
 #[derive(Clone, Copy, Debug, PartialEq, Eq)]
 pub struct Dashes {
     pub at: usize,
     pub indent: usize,
 }
 
-/// The number of a step's line in the text, 0 if it has none, and the line behind its dash.
+/// The number of a step's line in the text, and the line behind its dash. The number is 0 if it has none, as answers have it.
 #[derive(Clone, Copy, Debug, PartialEq, Eq)]
 pub struct StepLine {
     pub line: u32,
@@ -32,18 +32,23 @@ fn is_steps(lines: &Lines<'_>, i: usize) -> bool
     lines.indent(i) == 0 && same_bytes(lines.text(i), b"steps:")
 }
 
-// The line behind the first that is.
-#[tactic(auto, using(crate::proofs::Laws::behind))]
+// The first that is, if there is one.
+fn steps_line(lines: &Lines<'_>) -> Option<usize>
+    ensures { MatchOption result (drop (length lines.now) lines.now ≡ behind_steps lines.now)
+        (λ i. (i < length lines.now) × (drop (i + 1) lines.now ≡ behind_steps lines.now)) }
+{
+    (0..lines.len()).find(|&i| is_steps(lines, i))
+}
+
+// The line behind it.
 fn behind_steps(lines: &Lines<'_>) -> usize
     ensures { (drop result lines.now ≡ behind_steps lines.now) × (result ≤ length lines.now) }
 {
     let count = lines.len();
-    for i in 0..count {
-        if is_steps(lines, i) {
-            return i + 1;
-        }
+    match steps_line(lines) {
+        Some(i) => i + 1,
+        None => count,
     }
-    count
 }
 
 /// Where the dashes of the steps stand, if there are any: behind the line `steps:`, at the indentation of the line there.
@@ -61,6 +66,7 @@ pub fn first_dash(lines: &Lines<'_>) -> Dashes
 }
 
 /// The line of the next dash from line `i` on; 0 where none comes before a line less indented.
+// A loop and no `find`, since a line ends it in one of two ways.
 #[tactic(auto, using(crate::proofs::Laws::dash_on))]
 pub fn next_dash(lines: &Lines<'_>, i: usize, indent: usize) -> StepLine
     requires { i ≤ length lines.now }

@@ -2,27 +2,24 @@
 use Rattle.std.specs.Prelude.{Option as Maybe, Some, None, Result, Err}
 use Rattle.std.specs.Option.{ok_or}
 use Rattle.refusal.specs.declared.Refusal.{Refusal}
-use Rattle.std.proofs.Common.{◌≡◌, refl, sym, ap, ◌∙◌, ℕ, ◌+◌, ◌-◌, ◌≤◌, ◌^◌, length, drop, arith, List, append-nil, true, false}
-use Rattle.std.proofs.Math.Option.{Option, none, some}
+use Rattle.std.proofs.Common.{◌≡◌, ◌≢◌, refl, sym, ap, ℕ, ◌+◌, ◌-◌, ◌≤◌, ◌^◌, length, drop, arith, List, append-nil, true, false}
+use Rattle.std.proofs.Math.Option.{none, some}
 use Rattle.std.proofs.lemmas.List.{length-take}
 use Rattle.refusal.specs.Base.{good, refused, ◌>>=◌, ◌>>◌, maybe, given, ensure, bytes, same}
 use Rattle.utf8.specs.Part.{part}
-use Rattle.item.specs.Tree.{Yaml, null, bool, int, str, seq, dict, Items, Entries, get, Ranged}
+use Rattle.item.specs.Tree.{Yaml, null, bool, int, str, seq, dict, Items, Entries, get}
 use Rattle.item.specs.Encode.{item, encode, kind_of}
-use Rattle.item.specs.declared.Item.{Item}
-use Rattle.item.specs.declared.Found.TheVariants.{At}
-use Rattle.entries.specs.Entries.{Stands, Holds, Finds}
+use Rattle.entries.specs.Entries.{Holds}
 use Rattle.entries.proofs.Standing.{stands-part}
-use Rattle.entries.proofs.Values.{Mapped, entries-of}
 use Rattle.nodes.specs.declared.output.RecordWriter.{RecordWriter}
 use Rattle.nodes.specs.Writing.{GoesAtMost, Writes}
-use Rattle.nodes.specs.Contract.{or_null, scalar_text, text_or_empty}
+use Rattle.nodes.specs.Contract.{FindsNode, or_null, scalar_text, text_or_empty}
 use Rattle.nodes.proofs.Writing.{writes_is, writes_more, item_most}
 use Rattle.meaning.specs.Meaning.{Defaults}
 use Rattle.meaning.specs.Record.{joined, text_item, tags_item, defaults_item, fields}
 use Rattle.meaning.specs.Meanings.{schema, refuse, document, scalar_at, or_empty, check_schema, sequence_or, texts_of, defaults_of, Top, top_of, with_steps}
-use Rattle.top.specs.declared.TopPlaces.{TopPlaces}
-use Rattle.top.specs.Contract.{ReadsTop, top_fields, IsValue, KnownKeys, Passed, IsSequence, IsDefaults}
+use Rattle.top.specs.declared.TopNodes.{TopNodes}
+use Rattle.top.specs.Contract.{ReadsTop, top_fields, KnownKeys, Passed, IsSequence, IsDefaults}
 
 -- ---- what a `?` behind an `ok_or` hands on
 
@@ -35,7 +32,7 @@ lost {o = Some x} h = cc h
 
 -- ---- 21 to 24
 
-other-document : (y : Yaml) → (kind_of y ≡ 5 → ⊥) → document y ≡ refuse 21
+other-document : (y : Yaml) → kind_of y ≢ 5 → document y ≡ refuse 21
 unfolding kind_of document
 other-document null k = refl
 other-document (bool b) k = refl
@@ -44,25 +41,15 @@ other-document (str t) k = refl
 other-document (seq ys) k = refl
 other-document (dict es) k = absurd (k refl)
 
-pub front-value : {s : List ℕ} {v : Item} (y : Yaml) → Ranged y → Stands s 0 (encode y) → ((o : Option Yaml) → Finds s o (At 0) → IsValue s (or_null o) v) → IsValue s y v
-unfolding maybe
-front-value y g st promise = promise (some y) (record { value = y; is = refl; ranged = g; stands = st })
-
-module _ {s : List ℕ} {v : Item} (y : Yaml) (i : IsValue s y v) where
-  pub top-21 : (v.kind ≡ 5 → ⊥) → top_of y ≡ refused 21 0 0
+module _ (y : Yaml) where
+  pub top-21 : kind_of y ≢ 5 → top_of y ≡ refused 21 0 0
   unfolding top_of ◌>>=◌
-  top-21 h = rw (other-document y (λ e. h (i.item_is.kind_is ∙ e)))
+  top-21 h = rw (other-document y h)
 
-  module _ (k : v.kind ≡ 5) where
-    pub root : Mapped s v.from v.to y
-    root = entries-of y i.ranged i.item_is.stands i.item_is.ends (sym i.item_is.kind_is ∙ k)
-
-    abbrev es : Entries
-    es = root.entries
-
+  module _ {es : Entries} (e : y ≡ dict es) where
     is-document : document y ≡ good es
     unfolding document
-    is-document = ap document root.is
+    is-document = ap document e
 
     pub top-22 : KnownKeys es false → top_of y ≡ refused 22 0 0
     unfolding top_of ◌>>=◌ ◌>>◌
@@ -109,10 +96,11 @@ module _ {y : Yaml} {es : Entries} (p : Passed y es) where
           unfolding top_of ◌>>=◌ ◌>>◌ scalar_at given
           top-31 h = rw (p.document_is, p.known, p.schema_is, ← n, t, f, d, h)
 
-  module _ {s : List ℕ} (r : TopPlaces) {name : List ℕ} (n : some name ≡ scalar_text (get (bytes "name") es)) (t : IsSequence (get (bytes "tags") es) r.tags)
+  module _ (r : TopNodes) {name : List ℕ} (n : some name ≡ scalar_text (get (bytes "name") es)) (t : IsSequence (get (bytes "tags") es) r.tags)
       (f : IsSequence (get (bytes "fail_on") es) r.fail_on)
-      (d : IsDefaults s (defaults_of (get (bytes "defaults") es)) r.defaults) where
-    pub top_read : Finds s (get (bytes "name") es) r.name → Finds s (get (bytes "description") es) r.description → Finds s (get (bytes "image") es) r.image → Finds s (get (bytes "setup") es) r.setup → IsSequence (get (bytes "steps") es) r.steps → ReadsTop s (top_of y) r
+      (d : IsDefaults (defaults_of (get (bytes "defaults") es)) r.defaults) where
+    pub top_read : FindsNode (get (bytes "name") es) r.name → FindsNode (get (bytes "description") es) r.description → FindsNode (get (bytes "image") es) r.image → FindsNode (get (bytes "setup") es) r.setup
+        → IsSequence (get (bytes "steps") es) r.steps → ReadsTop (top_of y) r
     unfolding top_of ◌>>=◌ ◌>>◌ scalar_at given or_empty maybe
     top_read found_name description image setup steps = record {
       top = record {

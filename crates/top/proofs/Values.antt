@@ -1,36 +1,54 @@
--- One value by its kind: the schema, sequences. A key that is absent is read as null. Assumes nothing.
+-- One value by its kind: the schema, sequences. Assumes nothing.
 use Rattle.std.specs.Prelude.{if◌then◌else◌}
-use Rattle.std.proofs.Common.{Bor, ◌≡◌, refl, sym, ap, ◌∙◌, ℕ, zero, suc, ◌+◌, ◌/◌, ◌%◌, ◌≤◌, ◌<◌, arith, List, [], ◌∷◌, ◌++◌, true, false, ltb, ℤ, pos, negsuc, length}
+use Rattle.std.proofs.Common.{Bor, ◌≡◌, ◌≢◌, refl, sym, ap, ◌∙◌, ℕ, zero, suc, ◌+◌, ◌/◌, ◌%◌, ◌<◌, arith, List, [], ◌∷◌, ◌++◌, true, false, eqb, ltb, not, MatchOption, ℤ, pos, negsuc}
 use Rattle.std.proofs.Math.Option.{Option, none, some}
-use Rattle.std.proofs.lemmas.Bool.{ne_eqb, ltb-true}
+use Rattle.std.proofs.lemmas.Bool.{eq-eqb, eqb-true, ne_eqb, ltb-true, false≢true}
+use Rattle.std.specs.Bool.{then_some}
+use Rattle.std.specs.Prelude.{Option as Maybe, Some, None}
 use Rattle.std.specs.Prelude as flags
-use Rattle.refusal.specs.Base.{good, refused, maybe, bytes, same}
+use Rattle.refusal.specs.Base.{refused, bytes, same}
 use Rattle.item.specs.Tree.{Yaml, null, bool, int, str, seq, dict, end}
 use Rattle.item.specs.Encode.{encode, kind_of, signed}
-use Rattle.item.specs.declared.Item.{Item}
 use Rattle.item.specs.declared.encoded.Part.{Part}
 use Rattle.number.specs.Integers.{decimal_of, int_text}
 use Rattle.scalar.specs.Scalars.{bool_text}
-use Rattle.entries.specs.Entries.{Stands, Holds, content}
+use Rattle.nodes.specs.declared.node.Node.{Node}
 use Rattle.nodes.specs.declared.Scalar.{Scalar}
 use Rattle.nodes.specs.declared.Scalar.TheVariants.{Bool, Int, Str}
-use Rattle.nodes.specs.Contract.{FoundItem, or_null, text_of}
-use Rattle.entries.proofs.Values.{items_of}
-use Rattle.nodes.proofs.Items.{part_holds}
+use Rattle.nodes.specs.Contract.{FoundNode, FindsNode, AgreesItems, text_of}
 use Rattle.meaning.specs.Meanings.{schema, sequence_or}
-use Rattle.top.specs.Contract.{IsValue, IsSequence}
+use Rattle.top.specs.Contract.{no_null, IsSequence, AgreesSequence}
 
--- ---- what was looked for
+-- ---- null is read as a key that is absent
 
-pub found_value : {s : List ℕ} {o : Option Yaml} {item : Item} → FoundItem s o item → IsValue s (or_null o) item
-unfolding maybe
-found_value f = rw f.is (record { ranged = f.ranged; item_is = f.item_is })
+module _ (o : Option Yaml) where
+  none_left : o ≡ none → no_null o ≡ none
+  unfolding no_null
+  none_left e = rw e refl
 
-pub absent-value : (s : List ℕ) (o : Option Yaml) → o ≡ none → IsValue s (or_null o) (record { kind = 0; from = 0; to = 0 })
-unfolding maybe kind_of content
-absent-value s o e =
-    rw e
-    (record { ranged = tt; item_is = record { kind_is = refl; stands = record { rest = s; here = refl; within = omega arith }; ends = refl } })
+  null_dropped : {y : Yaml} → o ≡ some y → kind_of y ≡ 0 → no_null o ≡ none
+  unfolding no_null
+  null_dropped {y} e k = rw (e, eq-eqb (kind_of y) 0 k) refl
+
+  other_left : {y : Yaml} → o ≡ some y → kind_of y ≢ 0 → no_null o ≡ some y
+  unfolding no_null
+  other_left {y} e k = rw (e, ne_eqb (kind_of y) 0 k) refl
+
+pub not_kind : {b : flags.Bool} {n k : ℕ} (y : Yaml) → b ≡ eqb n k → b ≡ false → n ≡ kind_of y → kind_of y ≢ k
+not_kind {n = n} {k = k} y e f q h = false≢true (sym f ∙ e ∙ eq-eqb n k (q ∙ h))
+
+kept-node : (o : Option Yaml) (x : Node) (b : flags.Bool) → b ≡ eqb x.item.kind 0 → FoundNode o x → FindsNode (no_null o) (then_some (not b) x)
+kept-node o x true e f = null_dropped o f.is (sym f.node_is.item_is.kind_is ∙ eqb-true _ _ (sym e))
+kept-node o x false e f =
+    let k = not_kind f.value e refl f.node_is.item_is.kind_is in
+    record { value = f.value; is = other_left o f.is k; node_is = f.node_is; whole = f.whole }
+
+pub filtered : (o : Option Yaml) (v r : Maybe Node) (Gives : Node → flags.Bool → Type 0)
+    → MatchOption v (r ≡ None) (λ x. (b : flags.Bool) × Gives x b × (r ≡ then_some b x))
+    → ((x : Node) (b : flags.Bool) → Gives x b → b ≡ not (eqb x.item.kind 0))
+    → FindsNode o v → FindsNode (no_null o) r
+filtered o None r Gives m g f = rw m (none_left o f)
+filtered o (Some x) r Gives (b, s, e) g f = rw (e, g x b s) (kept-node o x _ refl f)
 
 -- ---- the schema: no text of a boolean or an integer is it
 
@@ -66,26 +84,22 @@ unfolding bool_text same schema bytes
 bool_same true = refl
 bool_same false = refl
 
-pub other-schema : (scalar : Scalar) → ((t : Bor (List ℕ)) → scalar ≡ Str t → ⊥) → false ≡ same (text_of scalar) schema
-other-schema (Bool b) h = bool_same b
-other-schema (Int n) h = low_same (int_text (signed n.negative n.magnitude)) (low-int (signed n.negative n.magnitude))
-other-schema (Str t) h = absurd (h t refl)
+pub other_schema : (scalar : Scalar) → ((t : Bor (List ℕ)) → scalar ≡ Str t → ⊥) → false ≡ same (text_of scalar) schema
+other_schema (Bool b) h = bool_same b
+other_schema (Int n) h = low_same (int_text (signed n.negative n.magnitude)) (low-int (signed n.negative n.magnitude))
+other_schema (Str t) h = absurd (h t refl)
 
 -- ---- sequences
 
-sequence-null : (n : ℕ) (o : Option Yaml) → sequence_or n o ≡ sequence_or n (some (or_null o))
-unfolding maybe sequence_or
-sequence-null n none = refl
-sequence-null n (some y) = refl
-
-null-items : {s : List ℕ} {from to : ℕ} (y : Yaml) → kind_of y ≡ 0 → Stands s from (content y) → to ≡ from + length (content y) → ((n : ℕ) → sequence_or n (some y) ≡ good end) × Holds s from to end
-unfolding kind_of sequence_or content encode
-null-items null k st e = (λ n. refl, record { ranged = tt; lies = record { stands = st; ends = e } })
-null-items (bool b) k st e = absurd (omega arith)
-null-items (int z) k st e = absurd (omega arith)
-null-items (str t) k st e = absurd (omega arith)
-null-items (seq ys) k st e = absurd (omega arith)
-null-items (dict es) k st e = absurd (omega arith)
+sequence-no_null : (n : ℕ) (o : Option Yaml) → sequence_or n o ≡ sequence_or n (no_null o)
+unfolding no_null kind_of sequence_or
+sequence-no_null n none = refl
+sequence-no_null n (some null) = refl
+sequence-no_null n (some (bool t)) = refl
+sequence-no_null n (some (int z)) = refl
+sequence-no_null n (some (str t)) = refl
+sequence-no_null n (some (seq ys)) = refl
+sequence-no_null n (some (dict es)) = refl
 
 no_items : (y : Yaml) (n : ℕ) → (kind_of y ≡ 0 → ⊥) → (kind_of y ≡ 4 → ⊥) → sequence_or n (some y) ≡ refused n 0 0
 unfolding kind_of sequence_or
@@ -96,18 +110,15 @@ no_items (str t) n a b = refl
 no_items (seq ys) n a b = absurd (b refl)
 no_items (dict es) n a b = refl
 
-module _ {bytes : Bor (List ℕ)} {v : Item} {part : Part} (o : Option Yaml) (i : IsValue bytes.now (or_null o) v) (b : part.bytes ≡ bytes)
-    (places : v.from ≤ v.to → v.to ≤ length bytes.now → (part.from ≡ v.from) × (part.to ≡ v.to)) where
-  pub sequence-empty : v.kind ≡ 0 → IsSequence o part
-  sequence-empty k =
-      let e = null-items (or_null o) (sym i.item_is.kind_is ∙ k) i.item_is.stands i.item_is.ends in
-      record { items = end; is = λ n. sequence-null n o ∙ e.0 n; holds = part_holds b places e.1 }
+pub sequence-empty : (o : Option Yaml) (part : Part) → no_null o ≡ none → part.from ≡ 0 → part.to ≡ 0 → IsSequence o part
+unfolding sequence_or encode
+sequence-empty o part e p q = record {
+  items = end;
+  is = λ n. sequence-no_null n o ∙ ap (sequence_or n) e;
+  holds = rw (p, q) (record { ranged = tt; lies = record { stands = record { rest = part.bytes.now; here = refl; within = omega arith }; ends = refl } });
+}
 
-  pub sequence-there : v.kind ≡ 4 → IsSequence o part
-  unfolding sequence_or
-  sequence-there k =
-      let l = items_of (or_null o) i.ranged i.item_is.stands i.item_is.ends (sym i.item_is.kind_is ∙ k) in
-      record { items = l.items; is = λ n. sequence-null n o ∙ ap (λ (y : Yaml). sequence_or n (some y)) l.is; holds = part_holds b places l.holds }
-
-pub sequence-other : {s : List ℕ} {v : Item} (o : Option Yaml) → IsValue s (or_null o) v → (v.kind ≡ 0 → ⊥) → (v.kind ≡ 4 → ⊥) → (n : ℕ) → sequence_or n o ≡ refused n 0 0
-sequence-other o i a b n = sequence-null n o ∙ no_items (or_null o) n (λ e. a (i.item_is.kind_is ∙ e)) (λ e. b (i.item_is.kind_is ∙ e))
+pub sequence-there : (o : Option Yaml) {node : Node} (r : Maybe Part) → node.item.kind ≢ 0 → (f : FoundNode (no_null o) node) → AgreesItems f.value r → AgreesSequence o r
+unfolding sequence_or
+sequence-there o (Some part) k f i = record { items = i.items; is = λ n. sequence-no_null n o ∙ ap (sequence_or n) (f.is ∙ ap some i.is); holds = i.holds }
+sequence-there o None k f i = λ n. sequence-no_null n o ∙ ap (sequence_or n) f.is ∙ no_items f.value n (λ e. k (f.node_is.item_is.kind_is ∙ e)) i

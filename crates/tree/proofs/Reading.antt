@@ -15,6 +15,7 @@ use Rattle.writer.proofs.Laws.{len_appended}
 use Rattle.lines.specs.Lines.{Line, significant_lines}
 use Rattle.lines.specs.declared.Row.{Row}
 use Rattle.lines.specs.Table.{table_lines}
+use Rattle.lines.proofs.Rows.{lines_end, lines_next}
 use Rattle.lines.specs.Ready.{Filled}
 use Rattle.literal.specs.Contract.{WroteBlock}
 use Rattle.block.specs.Block.{block}
@@ -128,3 +129,10 @@ module _ (text old new : List ℕ) (n : ℕ) (e : n ≡ min (length old) (2 ^ 20
     told-zeros k =
         let m : length (new ++ drop n old) ≡ length old = length-append new (drop n old) ∙ omega (arith, lent, length-drop n old) in
         rw (sym same-work ∙ w, m)
+
+-- what the search tries
+pub ruleset lines_read = (tree-stops, tree-whole, tree-rest, lines_end, lines_next)
+
+pub ruleset texts_read = (tree_long, tree_bytes, tree-unlined, tree-lined, read-lined)
+
+pub ruleset told = (told-refusal, told-zeros)

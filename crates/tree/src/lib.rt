@@ -1,7 +1,7 @@
 // The first job: the tree of a whole text.
 #![tactic(auto)]
 
-ghost use Rattle.std.specs.Prelude.{◌≡◌, ◌≤◌, min, ◌^◌, length};
+ghost use Rattle.std.specs.Prelude.{◌≡◌, ◌≤◌, ◌^◌, length};
 ghost use Rattle.tree.specs.Tree as definition;
 ghost use Rattle.tree.specs.Contract.{AgreesTree, AgreesRead};
 ghost use Rattle.tree.specs.Tree.{answer_of, size_of, left};
@@ -16,9 +16,12 @@ use writer::Writer;
 // The most bytes that a text may have.
 const LONGEST: usize = 65535;
 
+// How many collections may be opened, one in the other.
+const MOST_LEVELS: usize = 32;
+
 /// What reading a tree answers: the bytes that it takes.
 // An enum of its own, as each public job answers: what it tells has names, and the definitions name its cases.
-#[derive(Clone, Copy)]
+#[derive(Clone, Copy, Debug, PartialEq, Eq)]
 pub enum TreeAnswer {
     Read { bytes: usize },
     Refused(Refusal),
@@ -31,20 +34,14 @@ pub struct TreeRead {
     pub count: usize,
 }
 
-/// How many places of a lent output count.
-pub fn counted(len: usize, most: usize) -> usize
-    ensures { result ≡ min len most }
-{
-    len.min(most)
-}
-
 // The value of all lines.
+#[tactic(auto, using(crate::proofs::Reading::lines_read))]
 fn tree_of(lines: &Lines<'_>, out: &mut [u8]) -> Result<usize, Refusal>
     requires { length out.old ≤ 2 ^ 20 }
     ensures { AgreesTree (definition.tree_of (length out.old) lines.now) out.old out.new result }
 {
     let mut writer = Writer::new(out);
-    let next = block(lines, 0, 32, &mut writer)?;
+    let next = block(lines, 0, MOST_LEVELS, &mut writer)?;
     if next == lines.len() {
         return Ok(writer.used());
     }
@@ -53,7 +50,7 @@ fn tree_of(lines: &Lines<'_>, out: &mut [u8]) -> Result<usize, Refusal>
 }
 
 /// The tree of a text, written from the front of `out`, and the rows of its lines. Of a refusal anything is left in both.
-#[tactic(auto, using(crate::proofs::Reading::tree_long, crate::proofs::Reading::tree_bytes))]
+#[tactic(auto, using(crate::proofs::Reading::texts_read))]
 pub fn read_with(
     text: &[u8],
     rows: &mut [Row; MOST_LINES],
@@ -76,14 +73,15 @@ pub fn read_with(
 }
 
 /// The tree of a text, written from the front of `work`; a refusal leaves zeros in all of it.
+#[tactic(auto, using(crate::proofs::Reading::told))]
 pub fn read_tree(text: &[u8], work: &mut [u8]) -> TreeAnswer
     ensures answer { answer_of result ≡ size_of (definition.tree (length work.old) text.now) }
     ensures bytes { work.new ≡ left (definition.tree (length work.old) text.now)
         work.old }
 {
     let mut rows = [Row::EMPTY; MOST_LINES];
-    let n = counted(work.len(), LIMIT);
-    match read_with(text, &mut rows, &mut work[..n]) {
+    let counted = work.len().min(LIMIT);
+    match read_with(text, &mut rows, &mut work[..counted]) {
         Ok(read) => TreeAnswer::Read { bytes: read.bytes },
         Err(e) => {
             work.fill(0);

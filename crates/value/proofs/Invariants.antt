@@ -9,19 +9,20 @@ use Rattle.utf8.specs.Utf8.{is_utf8}
 use Rattle.item.specs.Tree.{Yaml, Items, Entries, ◌▸◌, done, pair, has_key}
 use Rattle.item.specs.Encode.{encode, Bytes}
 use Rattle.item.specs.Decode.{◌>>=◌, header, unkey, decode_items, decode_entries, decode}
-use Rattle.item.proofs.Exact.{got, none≢, entries-inv, decode-exact}
+use Rattle.item.proofs.Exact.{got, none≢, and_left, and_right, entries-inv, decode-exact}
 use Rattle.meaning.specs.Sound.{sound}
 use Rattle.value.specs.Tree.{tree, accepts, accepts_items, accepts_entries}
 use Rattle.entries.specs.Entries.{Lies, key_twice}
 use Rattle.entries.proofs.Walking.{lies-between}
-use Rattle.value.specs.Walks.{ReadAt}
+use Rattle.value.specs.Walks.{ReadAt, Walks}
+use Rattle.std.specs.Bool.{then_some}
 use Rattle.value.proofs.Contents.{no_header, content-refused, content-taken}
 use Rattle.item.specs.Places.{header_at}
 use Rattle.item.specs.declared.Item.{Item}
 use Rattle.item.specs.declared.Broken.{Broken}
 use Rattle.item.proofs.HeaderPlaces.{at_cut}
 use Rattle.item.proofs.Headers.{spans, header-item, no_header as no-item-there}
-use Rattle.std.specs.Prelude.{Ok, Err}
+use Rattle.std.specs.Prelude.{Ok, Err, None}
 
 -- ---- parts
 
@@ -75,6 +76,13 @@ module _ (l : ℕ) (s : List ℕ) (at : ℕ) where
         let i = spans s at h in
         let t = content-taken l (drop at s) _ _ _ (header-item s at h) e in
         record { value = t.value; is = t.is; forward = omega (arith, i.start, i.order); fits = i.fits }
+
+  pub no_value : header (drop at s) ≡ none → Walks (tree l) s at None
+  no_value h = no_header l (drop at s) h
+
+  pub value_ends : {item : Item} → Ok item ≡ header_at s at → (b : Bool) {c : List ℕ} → b ≡ accepts l item.kind c → c ≡ take (item.to - item.from) (drop item.from s) → Walks (tree l) s at (then_some b item.to)
+  value_ends {item} h true e p = value-read h (ap (accepts l item.kind) (sym p) ∙ sym e)
+  value_ends {item} h false e p = value-bad h (ap (accepts l item.kind) (sym p) ∙ sym e)
 
 -- ---- items
 
@@ -293,23 +301,25 @@ module _ (l : ℕ) (s : List ℕ) (at : ℕ) {key : Item} (h : Ok key ≡ header
   long : 0 < length (drop at s)
   long = omega (arith, length-drop at s)
 
-  pub key-bad : (key.kind ≡ 3 → is_utf8 text ≡ true → ⊥) → (t : ℕ) → entries_in l (suc t) (drop at s) ≡ false
-  key-bad n t = go (eqb key.kind 3) refl (is_utf8 text) refl
+  pub key-bad : eqb key.kind 3 && is_utf8 text ≡ false → (t : ℕ) → entries_in l (suc t) (drop at s) ≡ false
+  key-bad n t = go (eqb key.kind 3) refl n
     where
-      go : (b : Bool) → eqb key.kind 3 ≡ b → (u : Bool) → is_utf8 text ≡ u → entries_in l (suc t) (drop at s) ≡ false
-      go true e true f = absurd (n (eqb-true key.kind 3 e) f)
-      go true e false f = key-not-utf8 l (drop at s) long t key.kind text (drop key.to s) (header-item s at h) (eqb-true key.kind 3 e) f
-      go false e u f = other-kind l (drop at s) long t key.kind text (drop key.to s) (header-item s at h) (eqb-false key.kind 3 e)
+      go : (b : Bool) → eqb key.kind 3 ≡ b → b && is_utf8 text ≡ false → entries_in l (suc t) (drop at s) ≡ false
+      go true e f = key-not-utf8 l (drop at s) long t key.kind text (drop key.to s) (header-item s at h) (eqb-true key.kind 3 e) f
+      go false e f = other-kind l (drop at s) long t key.kind text (drop key.to s) (header-item s at h) (eqb-false key.kind 3 e)
 
-  module _ (three : key.kind ≡ 3) where
+  module _ (is_text : eqb key.kind 3 && is_utf8 text ≡ true) where
+    three : key.kind ≡ 3
+    three = eqb-true key.kind 3 (and_left (eqb key.kind 3) (is_utf8 text) is_text)
+
     pub beside-bad : tree l (drop key.to s) ≡ none → (t : ℕ) → entries_in l (suc t) (drop at s) ≡ false
     beside-bad e t = value-refused l (drop at s) long t key.kind text (drop key.to s) (header-item s at h) three e
 
-    pub entry-read : is_utf8 text ≡ true → {to : ℕ} → ReadAt (tree l) s key.to to → Onward l s at to
-    entry-read u {to} r =
+    pub entry-read : {to : ℕ} → ReadAt (tree l) s key.to to → Onward l s at to
+    entry-read {to} r =
         let i = spans s at h in
         record {
-          is = λ t. value_taken l (drop at s) long t key.kind text (drop key.to s) (header-item s at h) three r.value (drop to s) r.is u;
+          is = λ t. value_taken l (drop at s) long t key.kind text (drop key.to s) (header-item s at h) three r.value (drop to s) r.is (and_right (eqb key.kind 3) (is_utf8 text) is_text);
           forward = omega (arith, r.forward, i.start, i.order);
           fits = r.fits;
         }

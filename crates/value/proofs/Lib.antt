@@ -1,4 +1,5 @@
 pub mod Contents
+pub mod Headers
 pub mod Levels
 pub mod Invariants
 pub mod Open

@@ -2,13 +2,22 @@
 // an item is lent as a slice of its own; `levels` collections may be open in it, one in another.
 #![tactic(auto)]
 
-ghost use Rattle.std.specs.Prelude.{◌≡◌};
+ghost use Rattle.std.specs.Prelude.{◌≡◌, ◌-◌, ◌≤◌, ◌&&◌, eqb, length, take, drop};
+ghost use Rattle.utf8.specs.Utf8.{is_utf8};
 ghost use Rattle.value.specs.Tree.{tree, accepts, accepts_items, accepts_entries};
 ghost use Rattle.value.specs.Walks.{Walks};
 
 use entries::repeats;
-use item::{Encoded, Items, Kind, header_at};
+use item::{Encoded, Item, Items, Kind, header_at};
 use utf8::is_utf8;
+
+/// Whether an item is a text: a string, and its content UTF-8.
+pub fn is_text(s: &[u8], item: Item) -> bool
+    requires { (item.from ≤ item.to) × (item.to ≤ length s.now) }
+    ensures { result ≡ eqb item.kind 3 && is_utf8 (take (item.to - item.from) (drop item.from s.now)) }
+{
+    item.is(Kind::Str) && is_utf8(&s[item.from..item.to])
+}
 
 // One byte, 0 or 1.
 #[tactic(auto, using(crate::proofs::Contents::flag_byte, crate::proofs::Contents::flag_size))]
@@ -18,7 +27,9 @@ fn flag(content: &[u8]) -> bool
     content.len() == 1 && content[0] < 2
 }
 
-// Whether this is the content of a value of this kind.
+// Whether this is the content of a value of this kind: its kind and its content apart, as the definition has them. Put into the walks that
+// ask it, so that a scalar costs no call.
+#[inline(always)]
 #[cycle(values)]
 #[tactic(auto, using(crate::proofs::Contents::null_content, crate::proofs::Contents::flag_content, crate::proofs::Contents::int_content, crate::proofs::Contents::string_content, crate::proofs::Contents::sequence_content, crate::proofs::Contents::mapping_content, crate::proofs::Contents::too_deep), unfolding(item::specs::Kinds::number_of))]
 fn value(kind: usize, content: Encoded<'_>, levels: usize) -> bool
@@ -54,7 +65,8 @@ fn items(s: Encoded<'_>, levels: usize) -> bool
     true
 }
 
-// Keys and values in turn. Whether a key stands twice is judged once, when all are read.
+// Keys and values in turn, two items a turn, as a `Pair` does not tell its key's kind. Whether a key stands twice is judged once, when all
+// are read.
 #[cycle(values)]
 #[tactic(auto, using(item::proofs::Turns::placed))]
 fn entries(s: Encoded<'_>, levels: usize) -> bool
@@ -65,7 +77,7 @@ fn entries(s: Encoded<'_>, levels: usize) -> bool
         let Ok(key) = key else {
             return false;
         };
-        if key.kind != Kind::Str as usize || !is_utf8(&s.bytes[key.from..key.to]) {
+        if !is_text(s.bytes, key) {
             return false;
         }
         let Some(item) = walk.next() else {
@@ -83,6 +95,7 @@ fn entries(s: Encoded<'_>, levels: usize) -> bool
 }
 
 /// The end of the value that begins at `at`: any place. At most `levels` collections may be open in it, one in another.
+#[tactic(auto, using(crate::proofs::Headers::item_there, crate::proofs::Headers::no_item_there, crate::proofs::Invariants::no_value, crate::proofs::Invariants::value_ends))]
 pub fn value_at(s: Encoded<'_>, at: usize, levels: usize) -> Option<usize>
     ensures { Walks (tree levels) s.entry.bytes.now at result }
 {

@@ -4,12 +4,11 @@
 ghost use Rattle.std.specs.Prelude.{◌≡◌, ◌+◌, ◌-◌, ◌≤◌, ◌<◌, ◌^◌, [], ◌∷◌, length, take, replicate, MatchResult};
 ghost use Rattle.item.specs.Tree.{null, bool, int, str};
 ghost use Rattle.item.specs.Encode.{head, signed, encode};
+ghost use Rattle.number.specs.Integers.{int_text};
 
-use item::{Encoded, Integer, Kind};
+use item::{Encoded, HEADER, Integer, Kind};
+use number::{int_len, put_int_text};
 use refusal::Refusal;
-
-// How many bytes an item's header has.
-const HEADER: usize = 6;
 
 /// The output, all of which counts, and how many of its bytes are used.
 #[derive(Drop)]
@@ -70,8 +69,7 @@ impl Writer<'_> {
         ensures { Appends self.old self.new bytes.now }
     {
         let at = self.used;
-        let out = &mut *self.out;
-        item::copy(out, at, bytes);
+        item::copy(self.out, at, bytes);
         // Not `+=`: the bytes just written could have changed the field, which would be read again.
         self.used = at + bytes.len();
     }
@@ -92,9 +90,19 @@ impl Writer<'_> {
         requires { count ≤ room_of self.old }
         ensures { Appends self.old self.new (replicate count byte) }
     {
-        let out = &mut *self.out;
-        out[self.used..self.used + count].fill(byte);
-        self.used += count;
+        let at = self.used;
+        self.out[at..at + count].fill(byte);
+        // As in `put`.
+        self.used = at + count;
+    }
+
+    /// Puts an integer's decimal digits, with a minus before them if it is below 0.
+    pub fn digits(&mut self, n: Integer)
+        requires { length (int_text (signed n.negative n.magnitude)) ≤ room_of self.old }
+        ensures { Appends self.old self.new (int_text (signed n.negative n.magnitude)) }
+    {
+        put_int_text(self.out, self.used, n);
+        self.used += int_len(n);
     }
 
     /// The header of an item whose content, of so many bytes, is still to be put.
@@ -104,8 +112,7 @@ impl Writer<'_> {
         requires small { size < 2 ^ 32 }
         ensures { Appends self.old self.new (head (number_of kind) size) }
     {
-        let out = &mut *self.out;
-        item::put_header(out, self.used, kind as usize, size);
+        item::put_header(self.out, self.used, kind as usize, size);
         self.used += HEADER;
     }
 
@@ -115,8 +122,7 @@ impl Writer<'_> {
         requires { 6 ≤ room_of self.old }
         ensures { Appends self.old self.new (encode null) }
     {
-        let out = &mut *self.out;
-        item::put_null(out, self.used);
+        item::put_null(self.out, self.used);
         self.used += HEADER;
     }
 
@@ -126,8 +132,7 @@ impl Writer<'_> {
         requires { 7 ≤ room_of self.old }
         ensures { Appends self.old self.new (encode (bool value)) }
     {
-        let out = &mut *self.out;
-        item::put_bool(out, self.used, value);
+        item::put_bool(self.out, self.used, value);
         self.used += HEADER + 1;
     }
 
@@ -137,8 +142,7 @@ impl Writer<'_> {
         requires { 14 ≤ room_of self.old }
         ensures { Appends self.old self.new (encode (int (signed n.negative n.magnitude))) }
     {
-        let out = &mut *self.out;
-        item::put_int(out, self.used, n);
+        item::put_int(self.out, self.used, n);
         self.used += HEADER + 8;
     }
 
@@ -148,8 +152,7 @@ impl Writer<'_> {
         requires { 6 + length bytes.now ≤ room_of self.old }
         ensures { Appends self.old self.new (encode (str bytes.now)) }
     {
-        let out = &mut *self.out;
-        item::put_string(out, self.used, bytes);
+        item::put_string(self.out, self.used, bytes);
         self.used += HEADER + bytes.len();
     }
 
@@ -169,8 +172,7 @@ impl Writer<'_> {
         requires { header + 6 ≤ self.old.used }
         ensures { Fills self.old self.new header (head (number_of kind) (self.old.used - (header + 6))) }
     {
-        let out = &mut *self.out;
-        item::put_header(out, header, kind as usize, self.used - header - HEADER);
+        item::put_header(self.out, header, kind as usize, self.used - header - HEADER);
     }
 
     /// Takes back what stands behind so many bytes.

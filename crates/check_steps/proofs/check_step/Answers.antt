@@ -14,15 +14,20 @@ returns-then-not-is_known c = λ ns e at x q g st.
     let a = step-at x q (search rules) st (sym c.in-Some.is ∙ c.nth_item.ensures) in
     step-36 ns _ _ x (sym c.if-not-is_known.true ∙ c.is_known.ensures ns e ∙ ap (known ns) a.key)
 
-pub returns-then-same_bytes : goal.returns-then-same_bytes
+pub returns-then-not-same_bytes : goal.returns-then-not-same_bytes
 unfolding bytes
-returns-then-same_bytes c = λ ns e at x q g st.
+returns-then-not-same_bytes c = λ ns e at x q g st.
     let a = step-at x q (search rules) st (sym c.in-Some.is ∙ c.nth_item.ensures) in
-    c.check_repeat.ensures ns e x.value g a.value
-    ∙ step-repeat ns _ _ x (sym c.if-not-is_known.false ∙ c.is_known.ensures ns e ∙ ap (known ns) a.key) (sym c.if-same_bytes.true ∙ c.same_bytes.ensures ∙ ap (λ (k : List ℕ). same k (bytes "repeat")) a.key)
+    step-passed ns _ _ x (sym c.if-not-is_known.false ∙ c.is_known.ensures ns e ∙ ap (known ns) a.key) (sym c.if-not-same_bytes.true ∙ c.same_bytes.ensures ∙ ap (λ (k : List ℕ). same k (bytes "repeat")) a.key)
+
+pub returns-in_default-at : goal.returns-in_default-at
+returns-in_default-at c = λ ns e at x q g st.
+    let a = step-at x q (search rules) st (sym c.in-Some.is ∙ c.nth_item.ensures) in
+    absurd (c.in_default-at.ensures.value x.value g a.value)
 
 pub returns : goal.returns
 unfolding bytes
 returns c = λ ns e at x q g st.
     let a = step-at x q (search rules) st (sym c.in-Some.is ∙ c.nth_item.ensures) in
-    step-passed ns _ _ x (sym c.if-not-is_known.false ∙ c.is_known.ensures ns e ∙ ap (known ns) a.key) (sym c.if-same_bytes.false ∙ c.same_bytes.ensures ∙ ap (λ (k : List ℕ). same k (bytes "repeat")) a.key)
+    c.check_repeat.ensures ns e x.value (c.in-Some-at.ensures.value x.value g a.value)
+    ∙ step-repeat ns _ _ x (sym c.if-not-is_known.false ∙ c.is_known.ensures ns e ∙ ap (known ns) a.key) (sym c.if-not-same_bytes.false ∙ c.same_bytes.ensures ∙ ap (λ (k : List ℕ). same k (bytes "repeat")) a.key)

@@ -2,20 +2,9 @@
 use Rattle.std.proofs.Common.{arith}
 use Rattle.std.proofs.lemmas.List.{length-replicate}
 use Rattle.refusal.specs.Base.{ch}
-use Rattle.writer.proofs.Laws.{appends_more, len_appended}
+use Rattle.writer.proofs.Laws.{appends_more}
 use Rattle.literal.proofs.Laws.{line-whole, line-cut}
 use Rattle.literal.proofs.put_line.Goals as goal
-
-pub put-requires : goal.put-requires
-put-requires c =
-    let p = c.fill.ensures in
-    omega (arith, c.requires.line, c.requires.room, p.used, len_appended p, length-replicate c.args.spaces (ch " "))
-
-pub push-requires : goal.push-requires
-push-requires c =
-    let p = c.fill.ensures in
-    let q = c.put.ensures in
-    omega (arith, c.requires.room, c.used.ensures, c.if-used-to.true, len_appended p, len_appended q)
 
 pub returns-then-used-to : goal.returns-then-used-to
 returns-then-used-to c =

@@ -1,24 +1,20 @@
--- No integer, or the integer that the eight bytes are. Assumes nothing.
-use Rattle.std.proofs.Common.{sym, ◌∙◌, arith, rules}
-use Rattle.entries.proofs.Standing.{value-head, valued}
-use Rattle.lookups.proofs.Values.{no_times, eight_bytes, times-is}
+-- No integer, or the times that the integer is. Assumes nothing.
+use Rattle.std.proofs.Common.{◌≡◌, sym, ap, subst, ◌∙◌}
+use Rattle.std.proofs.lemmas.Result.{err_from_is_err_and}
+use Rattle.refusal.specs.declared.Refusal.TheVariants.{TimesNotPositive}
+use Rattle.nodes.specs.Contract.{AgreesInteger}
+use Rattle.lookups.specs.Lookups.{times_in}
+use Rattle.lookups.proofs.Values.{integer_there, other_times}
 use Rattle.lookups.proofs.times_at.Goals as goal
-use Rattle.lookups.proofs.times_at.Goals.{then-item-via-then-item, then-item-via-else-item+then-item-lt8}
 
-pub returns-in_default : goal.returns-in_default
-returns-in_default c = λ v g st.
-    let e = sym c.in_default.is ∙ c.header_at.ensures.value ∙ value-head v (search rules) st in
-    cc e
-
-pub returns-then-item : goal.returns-then-item
-returns-then-item c = λ v g st.
-    let i = valued (sym c.in-Ok.is ∙ c.header_at.ensures.value) v (search rules) st in
-    elim c.then-item.branch [
-      | then-item-via-then-item w ↦ no_times _ v i w.if-item.true
-      | then-item-via-else-item+then-item-lt8 w ↦ absurd (omega (arith, eight_bytes 0 v i w.if-item.false, w.if-item-lt8.true))
-    ]
+pub returns-in_err-n : goal.returns-in_err-n
+returns-in_err-n c = λ v g st.
+    let o = c.in_err-n.ensures in
+    let e = err_from_is_err_and c.from_residual.result c.from_residual.ensures.1 in
+    let r : c.in_err-n.field-0.0 ≡ TimesNotPositive c.args.number = cc (rw o.ok_part at o.value) in
+    rw (e.1, e.2, r) (other_times c.args.number v (subst (AgreesInteger v) o.ok_part (integer_there v _ _ (c.at.ensures.value v g st) c.and_then-n.ensures)))
 
 pub returns : goal.returns
 returns c = λ v g st.
-    let i = valued (sym c.in-Ok.is ∙ c.header_at.ensures.value) v (search rules) st in
-    c.times_of.ensures ∙ times-is _ v i c.if-item.false g st c.integer_at.ensures
+    let i = subst (AgreesInteger v) c.in_ok-n.ensures.ok_part (integer_there v _ _ (c.at.ensures.value v g st) c.and_then-n.ensures) in
+    c.times_of.ensures ∙ ap (times_in c.args.number) (sym i)

@@ -1,6 +1,7 @@
 -- The bytes of a value that was found are its item. Assumes nothing.
-use Rattle.std.proofs.Common.{arith}
+use Rattle.std.proofs.Common.{subst, ◌∙◌, arith}
 use Rattle.item.specs.Encode.{encode}
+use Rattle.nodes.specs.Contract.{FindsNode}
 use Rattle.nodes.proofs.Writing.{writes_is, item_most}
 use Rattle.nodes.proofs.Texts.{value-part, no-value}
 use Rattle.nodes.proofs.put_value.Goals as goal
@@ -10,7 +11,7 @@ unfolding encode
 returns-in-None-clause-goes c = item_most _ _ _ c.null.ensures (omega arith)
 
 pub returns-in-Some-clause-value : goal.returns-in-Some-clause-value
-returns-in-Some-clause-value c = λ v r. writes_is (value-part r.value c.in-Some.ensures.inside.0 (c.in-Some.ensures.item r.value r.found) r.is) c.put.ensures
+returns-in-Some-clause-value c = λ v r. writes_is (c.whole.ensures ∙ value-part r.value (subst (FindsNode r.value) c.in-Some.is r.found) r.is) c.put.ensures
 
 pub returns-in-None-clause-value : goal.returns-in-None-clause-value
-returns-in-None-clause-value c = λ v r. writes_is (no-value r.value (c.in-None.ensures.item r.value r.found) r.is) c.null.ensures
+returns-in-None-clause-value c = λ v r. writes_is (no-value r.value (subst (FindsNode r.value) c.in-None.is r.found) r.is) c.null.ensures

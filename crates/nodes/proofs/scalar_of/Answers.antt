@@ -1,22 +1,11 @@
--- The kinds of items, one by one. Assumes nothing.
-use Rattle.std.proofs.Common.{rules, arith}
-use Rattle.nodes.proofs.Texts.{bool_short, int_short, bool_told, int_told, str_told, nothing_told}
+-- A value's text is what its node tells. Assumes nothing.
+use Rattle.std.proofs.Common.{subst}
+use Rattle.nodes.specs.Contract.{FindsNode}
+use Rattle.nodes.proofs.Texts.{nothing_there, text_there, told}
 use Rattle.nodes.proofs.scalar_of.Goals as goal
 
-pub returns-then-item-clause-short : goal.returns-then-item-clause-short
-returns-then-item-clause-short c = bool_short _
-
-pub returns-then-item-clause-text : goal.returns-then-item-clause-text
-returns-then-item-clause-text c = λ y g i. bool_told y (search rules) i
-
-pub returns-then-item-ge8-clause-short : goal.returns-then-item-ge8-clause-short
-returns-then-item-ge8-clause-short c = int_short _
-
-pub returns-then-item-ge8-clause-text : goal.returns-then-item-ge8-clause-text
-returns-then-item-ge8-clause-text c = λ y g i. int_told _ y (search rules) g i c.integer_at.ensures
-
-pub returns-then-is_string-clause-text : goal.returns-then-is_string-clause-text
-returns-then-is_string-clause-text c = λ y g i. str_told y (search rules) i
+pub returns-in_err-node-clause-text : goal.returns-in_err-node-clause-text
+returns-in_err-node-clause-text c = λ o f. rw c.from_residual.ensures (nothing_there o (subst (FindsNode o) c.in_err-node.was f))
 
 pub returns-clause-text : goal.returns-clause-text
-returns-clause-text c = λ y g i. nothing_told y i (grind arith) (grind arith) c.if-is_string.false
+returns-clause-text c = λ o f. let i = subst (FindsNode o) c.in_ok-node.was f in text_there o i.value i.is (told i.value c.scalar.result (c.scalar.ensures.value i.value i.node_is))

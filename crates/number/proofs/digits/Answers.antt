@@ -1,41 +1,47 @@
-use Rattle.std.proofs.Common.{arith, sym, ap, ◌∙◌, ℕ, ◌+◌, ◌*◌, ◌-◌, length, take, drop}
-use Rattle.std.proofs.lemmas.List.{take_rest}
-use Rattle.number.specs.Code.{bounded}
+use Rattle.std.proofs.Common.{arith, sym, ap, ◌∙◌, ℕ, ◌+◌, length, drop, le-leb, eqb-true}
+use Rattle.std.proofs.lemmas.Bool.{lt-leb, eqb-false}
+use Rattle.number.specs.Code.{number_of, at_most}
 use Rattle.number.proofs.Laws.{digits_from, digits-none, digits-zero, digits-start, from_other, from-over, from_on, from_end}
 use Rattle.number.proofs.digits.Goals as goal
-use Rattle.number.proofs.digits.Goals.{then-from-t-via-then-from-t, then-from-t-via-else-from-t+then-zero_first}
+use Rattle.number.proofs.digits.Goals.{then-is_empty-via-then-is_empty, then-is_empty-via-else-is_empty+then-zero_first}
 
-pub returns-then-from-t : goal.returns-then-from-t
-unfolding bounded
-returns-then-from-t c = let a = c.args in
-    elim c.then-from-t.branch [
-      | then-from-t-via-then-from-t w ↦ rw (digits-none a.t.now a.from (omega arith))
-      | then-from-t-via-else-from-t+then-zero_first w ↦ rw (digits-zero (drop a.from a.t.now) (sym w.zero_first.ensures ∙ w.if-zero_first.true))
+pub returns-then-is_empty : goal.returns-then-is_empty
+unfolding at_most
+returns-then-is_empty c = let t = c.args.t.now in
+    elim c.then-is_empty.branch [
+      | then-is_empty-via-then-is_empty w ↦ rw (digits-none t (eqb-true (length t) 0 (sym c.is_empty.ensures ∙ w.if-is_empty.true)))
+      | then-is_empty-via-else-is_empty+then-zero_first w ↦ rw (digits-zero t (sym w.zero_first.ensures ∙ w.if-zero_first.true))
     ]
 
 pub loop-b-init : goal.loop-b-init
-loop-b-init c = let a = c.args in (
-  omega arith,
-  ap (bounded a.negative a.limit) (digits-start a.t.now a.from (omega arith) (sym c.zero_first.ensures ∙ c.if-zero_first.false)
-      ∙ ap (digits_from 0) (sym (take_rest a.t.now a.from))),
-)
+loop-b-init c = let a = c.args in ap (at_most a.limit) (digits-start a.t.now (eqb-false (length a.t.now) 0 (sym c.is_empty.ensures ∙ c.if-is_empty.false)) (sym c.zero_first.ensures ∙ c.if-zero_first.false))
 
 pub returns-then-not-is_ascii_digit : goal.returns-then-not-is_ascii_digit
-unfolding bounded
-returns-then-not-is_ascii_digit c = let l = c.loop-b in rw (l.invariant.1, from_other _ l.b-index l.magnitude c.loop-b-test.true (sym c.is_ascii_digit.ensures.value ∙ c.if-not-is_ascii_digit.true))
+unfolding at_most
+returns-then-not-is_ascii_digit c = let l = c.loop-b in
+    rw (l.invariant, from_other c.args.t.now l.b-index l.number c.loop-b-test.true (sym c.is_ascii_digit.ensures.value ∙ c.if-not-is_ascii_digit.true))
 
-pub returns-then-magnitude-limit : goal.returns-then-magnitude-limit
-returns-then-magnitude-limit c = let l = c.loop-b in let a = c.args in
-    from-over a.negative a.limit (l.magnitude * 10 + c.from-d.result) _ (omega (arith, c.from-d.ensures))
-    ∙ sym (l.invariant.1 ∙ ap (bounded a.negative a.limit) (from_on _ l.b-index l.magnitude c.loop-b-test.true (sym c.is_ascii_digit.ensures.value ∙ c.if-not-is_ascii_digit.false)
-    ∙ ap (λ (d : ℕ). digits_from (l.magnitude * 10 + d) (drop (l.b-index + 1) (take (length a.t.now - a.from) (drop a.from a.t.now)))) (sym c.from-d.ensures)))
+pub returns-in_err-checked_mul : goal.returns-in_err-checked_mul
+returns-in_err-checked_mul c = let l = c.loop-b in let a = c.args in
+    ap number_of c.from_residual.ensures ∙ from-over a.limit _ _ (omega (arith, c.in_err-checked_mul.ensures))
+    ∙ sym (l.invariant ∙ ap (at_most a.limit) (from_on a.t.now l.b-index l.number c.loop-b-test.true (sym c.is_ascii_digit.ensures.value ∙ c.if-not-is_ascii_digit.false)))
+
+pub returns-in_err-number : goal.returns-in_err-number
+returns-in_err-number c = let l = c.loop-b in let a = c.args in
+    ap number_of c.from_residual-in_err-number.ensures ∙ from-over a.limit _ _ (omega (arith, c.from.ensures, c.in_ok-checked_mul.ensures, c.in_err-number.ensures))
+    ∙ sym (l.invariant ∙ ap (at_most a.limit) (from_on a.t.now l.b-index l.number c.loop-b-test.true (sym c.is_ascii_digit.ensures.value ∙ c.if-not-is_ascii_digit.false)))
 
 pub loop-b-preserved : goal.loop-b-preserved
-loop-b-preserved c = let l = c.loop-b in let a = c.args in (
-  omega (arith, c.if-not-is_ascii_digit.ensures.cases),
-  l.invariant.1 ∙ ap (bounded a.negative a.limit) (from_on _ l.b-index l.magnitude c.loop-b-test.true (sym c.is_ascii_digit.ensures.value ∙ c.if-not-is_ascii_digit.false)
-      ∙ ap (λ (d : ℕ). digits_from (l.magnitude * 10 + d) (drop (l.b-index + 1) (take (length a.t.now - a.from) (drop a.from a.t.now)))) (sym c.from-d.ensures)),
-)
+loop-b-preserved c = let l = c.loop-b in let a = c.args in
+    l.invariant ∙ ap (at_most a.limit) (from_on a.t.now l.b-index l.number c.loop-b-test.true (sym c.is_ascii_digit.ensures.value ∙ c.if-not-is_ascii_digit.false)
+    ∙ ap (λ (n : ℕ). digits_from n (drop (l.b-index + 1) a.t.now)) (omega (arith, c.from.ensures, c.in_ok-checked_mul.ensures, c.in_ok-number.ensures)))
 
-pub returns : goal.returns
-returns c = let l = c.loop-b in let a = c.args in from_end _ l.b-index a.negative a.limit l.magnitude (omega arith) l.invariant.0 ∙ sym l.invariant.1
+pub returns-then-number-limit : goal.returns-then-number-limit
+unfolding at_most
+returns-then-number-limit c = let l = c.loop-b in let a = c.args in
+    rw (l.invariant, from_end a.t.now l.b-index l.number (omega arith), le-leb l.number a.limit (omega arith))
+
+pub returns-else-number-limit : goal.returns-else-number-limit
+unfolding at_most
+returns-else-number-limit c = let l = c.loop-b in let a = c.args in
+    rw (l.invariant, from_end a.t.now l.b-index l.number (omega arith), lt-leb l.number a.limit (omega arith))

@@ -19,7 +19,7 @@ loop-left-preserved c =
       simp length-set (search rules),
       omega arith,
       omega arith,
-      rw c.digit.ensures (digit-back l.out a.at l.end l.left m (search rules) (omega arith) ∙ l.invariant.4),
+      digit-back l.out a.at l.end l.left m (search rules) (omega arith) ∙ l.invariant.4,
     )
 
 pub bounds-out-at : goal.bounds-out-at
@@ -29,4 +29,4 @@ pub returns : goal.returns
 returns c =
     let l = c.loop-left in
     let a = c.args in
-    rw c.digit-2.ensures (ap (sets l.out a.at) (sym (decimal-one l.left (search rules))) ∙ l.invariant.4)
+    ap (sets l.out a.at) (sym (decimal-one l.left (search rules))) ∙ l.invariant.4

@@ -25,12 +25,6 @@ returns-in_default c =
     let t = stop _ _ i.bytes i.to c.in-Some.ensures.steps c.in_default.is in
     texts-fail i.left.1 t.before (no_field as_text 0 _ (no_header 0 _ (no-item-there _ _ t.is)))
 
-pub is_text-requires : goal.is_text-requires
-is_text-requires c =
-    let i = c.loop-item.invariant in
-    let t = turn _ _ i.bytes i.to c.in-Some.ensures.steps c.in-Ok.is in
-    (t.places.order, t.places.fits)
-
 pub returns-then-not-is_text : goal.returns-then-not-is_text
 returns-then-not-is_text c =
     let i = c.loop-item.invariant in

@@ -18,4 +18,4 @@ pub returns : goal.returns
 unfolding are_defaults defaults_in ◌>>=◌
 returns c =
     let last = c.in_ok-end.ensures in
-    rw (c.then_some.ensures, c.in_ok-wall_budget.ensures.is, last.is) (ended _ c.args.s.bytes.now c.in_ok-end.end last.fits)
+    rw (c.filled.ensures, c.in_ok-wall_budget.ensures.is, last.is) (ended _ c.args.s.bytes.now c.in_ok-end.end last.fits)

@@ -1,20 +1,16 @@
 -- The check, the place, then the walk over the headers. Assumes nothing.
 use Rattle.std.proofs.Common.{ap, ◌∙◌, ◌-◌, arith}
 use Rattle.std.proofs.lemmas.Result.{err_from_is_err_and}
+use Rattle.std.proofs.lemmas.Grind.{common_steps}
 use Rattle.record.specs.Contract.{span_of}
-use Rattle.record.proofs.Lookups.{field-zero, field-refused}
-use Rattle.record.proofs.Answers.{opened_as, field_out, field_in}
+use Rattle.record.proofs.Lookups.{field-refused}
+use Rattle.record.proofs.Answers.{opened_as, outside, field_outside, field_in}
 use Rattle.record.proofs.field_at.Goals as goal
-use Rattle.record.proofs.field_at.Goals.{then-place-eq0-via-then-place-eq0, then-place-eq0-via-else-place-eq0+then-place-gt8}
 
-pub returns-then-place-eq0 : goal.returns-then-place-eq0
-returns-then-place-eq0 c =
+pub returns-then-not-contains : goal.returns-then-not-contains
+returns-then-not-contains c =
     let o = opened_as _ (λ i. omega (arith, c.type_inv.«record» i)) (c.in_ok-steps.ensures ∙ c.check_record.ensures) in
-    let place = c.args.place in
-    elim c.then-place-eq0.branch [
-      | then-place-eq0-via-then-place-eq0 w ↦ field-zero o place w.if-place-eq0.true
-      | then-place-eq0-via-else-place-eq0+then-place-gt8 w ↦ field_out o place (place - 1) (omega arith) (omega arith)
-    ]
+    field_outside o c.args.place (outside c.new.ensures.start c.new.ensures.end c.new.ensures.exhausted c.contains.ensures.value c.if-not-contains.true)
 
 pub returns-in_err-steps : goal.returns-in_err-steps
 returns-in_err-steps c =
@@ -25,4 +21,4 @@ pub returns : goal.returns
 returns c =
     let o = opened_as _ (λ i. omega (arith, c.type_inv.«record» i)) (c.in_ok-steps.ensures ∙ c.check_record.ensures) in
     let place = c.args.place in
-    ap span_of c.nth_item.ensures ∙ field_in o place (place - 1) (omega arith) (omega arith)
+    ap span_of c.nth_item.ensures ∙ field_in o place (place - 1) (grind (arith, common_steps)) (grind (arith, common_steps))

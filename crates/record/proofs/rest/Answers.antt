@@ -1,5 +1,6 @@
 -- Defaults, fail_on and the steps, which fill what is left. Assumes nothing.
-use Rattle.std.proofs.Common.{sym, ap, ◌∙◌, drop}
+use Rattle.std.proofs.Common.{sym, ap, ◌∙◌, drop, eqb-true}
+use Rattle.std.proofs.lemmas.Bool.{eqb-false}
 use Rattle.refusal.specs.Base.{maybe}
 use Rattle.item.specs.Decode.{◌>>=◌}
 use Rattle.record.specs.Read.{in_item, all, step_in, defaults_in, rest_in}
@@ -27,13 +28,13 @@ returns-in_err-end c =
     let d = content-read defaults_in c.in_ok-fail_on.ensures (ap are_defaults (sym c.slice.ensures) ∙ sym c.in_ok-defaults.ensures) in
     rw (c.from_residual-in_err-end.ensures, d.is, c.in_ok-list.ensures.is, no_item 18 (all (in_item 19 step_in)) (drop c.in_ok-list.list c.args.s.bytes.now) c.in_err-end.ensures)
 
-pub returns-then-end-s : goal.returns-then-end-s
+pub returns-in_err-filled : goal.returns-in_err-filled
 unfolding are_defaults
-returns-then-end-s c =
-    steps-behind c.args.s.bytes.now (content-read defaults_in c.in_ok-fail_on.ensures (ap are_defaults (sym c.slice.ensures) ∙ sym c.in_ok-defaults.ensures)) c.in_ok-list.ensures c.in_ok-end.ensures c.if-end-s.true
+returns-in_err-filled c =
+    rw c.from_residual-in_err-filled.ensures (steps-behind c.args.s.bytes.now (content-read defaults_in c.in_ok-fail_on.ensures (ap are_defaults (sym c.slice.ensures) ∙ sym c.in_ok-defaults.ensures)) c.in_ok-list.ensures c.in_ok-end.ensures (eqb-false _ _ (sym c.in_err-filled.ensures)))
 
 pub returns : goal.returns
 unfolding are_defaults
 returns c =
     c.steps.ensures ∙ ap steps_in c.slice-2.ensures
-    ∙ steps-last c.args.s.bytes.now (content-read defaults_in c.in_ok-fail_on.ensures (ap are_defaults (sym c.slice.ensures) ∙ sym c.in_ok-defaults.ensures)) c.in_ok-list.ensures c.in_ok-end.ensures c.if-end-s.false
+    ∙ steps-last c.args.s.bytes.now (content-read defaults_in c.in_ok-fail_on.ensures (ap are_defaults (sym c.slice.ensures) ∙ sym c.in_ok-defaults.ensures)) c.in_ok-list.ensures c.in_ok-end.ensures (eqb-true _ _ (sym c.in_ok-filled.ensures))

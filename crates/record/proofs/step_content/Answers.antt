@@ -53,5 +53,5 @@ returns-in_err-end c =
 pub returns : goal.returns
 unfolding is_step step_in ◌>>=◌
 returns c =
-    rw (c.then_some.ensures, c.in_ok-id.ensures.is, c.in_ok-command.ensures.is, c.in_ok-value.ensures.is, (tree-walks 29 c.args.s.bytes.now c.in_ok-value.value (Some c.in_ok-timeout.timeout) c.in_ok-timeout.ensures).is, c.in_ok-continues.ensures.is, c.in_ok-expect.ensures.is, command-in c.args.s.bytes c.all.result _ _ c.all.ensures.same c.all.ensures.bytes c.in_ok-value.ensures, c.in_ok-end.ensures.is)
+    rw (c.filled.ensures, c.in_ok-id.ensures.is, c.in_ok-command.ensures.is, c.in_ok-value.ensures.is, (tree-walks 29 c.args.s.bytes.now c.in_ok-value.value (Some c.in_ok-timeout.timeout) c.in_ok-timeout.ensures).is, c.in_ok-continues.ensures.is, c.in_ok-expect.ensures.is, command-in c.args.s.bytes c.all.result _ _ c.all.ensures.same c.all.ensures.bytes c.in_ok-value.ensures, c.in_ok-end.ensures.is)
     (ended _ c.args.s.bytes.now c.in_ok-end.end c.in_ok-end.ensures.fits)

@@ -1,10 +1,12 @@
 -- One step after the other. Assumes nothing.
-use Rattle.std.proofs.Common.{◌≡◌, sym, ap, ◌∙◌, subst, ℕ, ◌-◌, ◌+◌, take, drop, arith, rules, true, false}
+use Rattle.std.proofs.Common.{◌≡◌, sym, ap, ◌∙◌, subst, ℕ, ◌-◌, ◌+◌, take, drop, arith, rules, true, false, eqb-true}
+use Rattle.std.proofs.lemmas.Bool.{eqb-false}
 use Rattle.item.proofs.Headers.{no_header}
 use Rattle.record.specs.Read.{in_item, step_in}
 use Rattle.record.specs.Contract.{is_step}
 use Rattle.record.proofs.Chains.{no_item, content-read, content-refused, steps-end, steps-fail, steps_next}
-use Rattle.record.proofs.Headers.{is-ok, is-err, no-content-at, content-here, content-other}
+use Rattle.value.proofs.Headers.{ok_item, is-err}
+use Rattle.record.proofs.Headers.{no-content-at, content-here, content-other}
 use Rattle.record.proofs.Invariants.{Left, left-start}
 use Rattle.item.proofs.Turns.{turn, stop}
 use Rattle.record.proofs.steps.Goals as goal
@@ -28,19 +30,13 @@ returns-in_err-item c =
     let t = stop _ _ i.bytes i.to c.in-Some.ensures.steps (is-err (sym c.in_err-item.was ∙ c.ok.ensures.value)).1 in
     rw c.from_residual.ensures (steps-fail i.left t.before (no_item 19 step_in (drop at s) (no-content-at 19 s at (no_header s at t.is))))
 
-pub returns-then-item : goal.returns-then-item
-returns-then-item c =
+pub returns-then-not-is : goal.returns-then-not-is
+returns-then-not-is c =
     let i = c.loop-item.invariant in
     let s = c.args.s.bytes.now in
     let at = c.loop-item.item-iterator.at in
-    let t = turn _ _ i.bytes i.to c.in-Some.ensures.steps (is-ok (sym c.in_ok-item.was ∙ c.ok.ensures.value)) in
-    steps-fail i.left t.before (no_item 19 step_in (drop at s) (content-other 19 s at t.is c.if-item.true))
-
-pub slice-requires : goal.slice-requires
-slice-requires c =
-    let i = c.loop-item.invariant in
-    let t = turn _ _ i.bytes i.to c.in-Some.ensures.steps (is-ok (sym c.in_ok-item.was ∙ c.ok.ensures.value)) in
-    (t.places.order, t.places.fits)
+    let t = turn _ _ i.bytes i.to c.in-Some.ensures.steps (ok_item c.in_ok-item.was c.ok.ensures.value) in
+    steps-fail i.left t.before (no_item 19 step_in (drop at s) (content-other 19 s at t.is (eqb-false _ _ (sym c.is.ensures ∙ c.if-not-is.true))))
 
 pub returns-in_err-step_content : goal.returns-in_err-step_content
 unfolding is_step
@@ -49,9 +45,9 @@ returns-in_err-step_content c =
     let s = c.args.s.bytes.now in
     let at = c.loop-item.item-iterator.at in
     let to = c.in_ok-item.item.to in
-    let t = turn _ _ i.bytes i.to c.in-Some.ensures.steps (is-ok (sym c.in_ok-item.was ∙ c.ok.ensures.value)) in
+    let t = turn _ _ i.bytes i.to c.in-Some.ensures.steps (ok_item c.in_ok-item.was c.ok.ensures.value) in
     let bad = subst (λ (n : ℕ). is_step (take (to - n) (drop n s)) ≡ false) t.places.start (ap is_step (sym c.slice.ensures) ∙ sym c.in_err-step_content.ensures) in
-    rw c.from_residual-in_err-step_content.ensures (steps-fail i.left t.before (content-refused step_in (content-here 19 s at t.is c.if-item.false) bad))
+    rw c.from_residual-in_err-step_content.ensures (steps-fail i.left t.before (content-refused step_in (content-here 19 s at t.is (eqb-true _ _ (sym c.is.ensures ∙ c.if-not-is.false))) bad))
 
 pub loop-item-preserved : goal.loop-item-preserved
 unfolding is_step
@@ -60,9 +56,9 @@ loop-item-preserved c =
     let s = c.args.s.bytes.now in
     let at = c.loop-item.item-iterator.at in
     let to = c.in_ok-item.item.to in
-    let t = turn _ _ i.bytes i.to c.in-Some.ensures.steps (is-ok (sym c.in_ok-item.was ∙ c.ok.ensures.value)) in
+    let t = turn _ _ i.bytes i.to c.in-Some.ensures.steps (ok_item c.in_ok-item.was c.ok.ensures.value) in
     let good = subst (λ (n : ℕ). is_step (take (to - n) (drop n s)) ≡ true) t.places.start (ap is_step (sym c.slice.ensures) ∙ sym c.in_ok-step_content.ensures) in
-    let r = content-read step_in (content-here 19 s at t.is c.if-item.false) good in
+    let r = content-read step_in (content-here 19 s at t.is (eqb-true _ _ (sym c.is.ensures ∙ c.if-not-is.false))) good in
     record {
       bytes = t.bytes;
       to = t.end;

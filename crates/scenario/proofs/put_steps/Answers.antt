@@ -2,10 +2,16 @@ use Rattle.std.proofs.Common.{rules, arith, ℕ, subst}
 use Rattle.std.proofs.lemmas.Result.{err_from_is_err_and}
 use Rattle.entries.specs.Entries.{Holds}
 use Rattle.item.proofs.Turns.{turn, stop}
-use Rattle.nodes.proofs.Items.{item_turn, no_item_here, same_item}
+use Rattle.nodes.proofs.Items.{item_turn, no_item_here}
 use Rattle.nodes.proofs.Writing.{goes_more}
 use Rattle.scenario.proofs.Invariants.{walk_start, walk_refused, walk-on, walk-done}
 use Rattle.scenario.proofs.put_steps.Goals as goal
+
+pub invariant_of-node : goal.invariant_of-node
+invariant_of-node c =
+    let v = c.loop-item.invariant in
+    let t = turn _ _ v.0 v.1 c.in-Some.ensures.steps c.in-Ok.is in
+    record { inside = (omega (arith, t.places.start), t.places.order, t.places.fits, c.args.part.inside.2) }
 
 pub loop-item-init : goal.loop-item-init
 loop-item-init c =
@@ -32,7 +38,7 @@ returns-in_err-step_at-clause-steps c = λ ys h.
     let t = turn _ _ v.0 v.1 c.in-Some.ensures.steps c.in-Ok.is in
     let k = v.7 ys h in
     let e = err_from_is_err_and c.from_residual.result c.from_residual.ensures.1 in
-    rw (e.1, e.2) (walk_refused k c.next_dash-dash.ensures (item_turn k.rest c.args.part.inside.2 k.holds t) c.in_err-step_at.field-0.0 (λ y g i. c.in_err-step_at.ensures.step y g (same_item c.encoded-s.ensures i)))
+    rw (e.1, e.2) (walk_refused k c.next_dash-dash.ensures (item_turn k.rest c.args.part.inside.2 k.holds t) c.in_err-step_at.field-0.0 (λ y g i. c.in_err-step_at.ensures.step y (record { ranged = g; item_is = i })))
 
 pub loop-item-preserved : goal.loop-item-preserved
 loop-item-preserved c =
@@ -48,7 +54,7 @@ loop-item-preserved c =
       goes_more v.6 c.in_ok-step_at.ensures.goes.goes,
       λ ys h.
           let k = v.7 ys h in
-          rw t.next (walk-on k n (item_turn k.rest c.args.part.inside.2 k.holds t) (λ y g i. c.in_ok-step_at.ensures.step y g (same_item c.encoded-s.ensures i)) c.store.ensures c.store.auto.lines),
+          rw t.next (walk-on k n (item_turn k.rest c.args.part.inside.2 k.holds t) (λ y g i. c.in_ok-step_at.ensures.step y (record { ranged = g; item_is = i })) c.store.ensures c.store.auto.lines),
     )
 
 pub returns-clause-steps : goal.returns-clause-steps

@@ -7,14 +7,14 @@ use Rattle.scenario.proofs.read_scenario.Goals as goal
 pub returns-in-Ok : goal.returns-in-Ok
 returns-in-Ok c =
     let a = c.args in
-    let cw = c.counted-w in
-    let cr = c.counted-r in
-    let cl = c.counted-l in
+    let cw = c.min-work_len in
+    let cr = c.min-record_len in
+    let cl = c.min-places in
     let hw : cw.result ≤ length a.work.now = omega (arith, cw.ensures) in
     let hr : cr.result ≤ length a.«record».now = omega (arith, cr.ensures) in
     let hl : cl.result ≤ length a.lines.now = omega (arith, cl.ensures) in
     let x = scenario (length a.work.now) (length a.«record».now) (length a.lines.now) a.text.now in
-    let v = lent_is a.text.now a.work.now _ a.«record».now _ a.lines.now _ cw.result cr.result cl.result cw.ensures cr.ensures cl.ensures (Ok c.in-Ok.sizes) c.in-Ok.ensures in
+    let v = lent_is a.text.now a.work.now _ a.«record».now _ a.lines.now _ cw.result cr.result cl.result cw.ensures cr.ensures cl.ensures (Ok c.in-Ok.field-0) c.in-Ok.ensures in
     record {
       answer = read_told x a.work.now _ a.«record».now _ a.lines.now _ cw.result cr.result cl.result hw hr hl v;
       tree = tree-out x a.work.now _ a.«record».now _ a.lines.now _ cw.result cr.result cl.result hw hr hl v;
@@ -25,9 +25,9 @@ returns-in-Ok c =
 pub returns-in-Err : goal.returns-in-Err
 returns-in-Err c =
     let a = c.args in
-    let cw = c.counted-w in
-    let cr = c.counted-r in
-    let cl = c.counted-l in
+    let cw = c.min-work_len in
+    let cr = c.min-record_len in
+    let cl = c.min-places in
     let hw : cw.result ≤ length a.work.now = omega (arith, cw.ensures) in
     let hr : cr.result ≤ length a.«record».now = omega (arith, cr.ensures) in
     let hl : cl.result ≤ length a.lines.now = omega (arith, cl.ensures) in

@@ -1,9 +1,7 @@
 -- The kind decides. Assumes nothing.
-use Rattle.step.proofs.Fields.{expect-absent, expect-kind}
+use Rattle.std.proofs.Common.{rules}
+use Rattle.step.proofs.Fields.{none-or-mapping}
 use Rattle.step.proofs.expect_fits.Goals as goal
 
-pub returns-in_default : goal.returns-in_default
-returns-in_default c = λ o f. expect-absent (c.in_default.ensures.item o f)
-
 pub returns : goal.returns
-returns c = λ o f. expect-kind (c.in-Some.ensures.item o f)
+returns c = λ o f. none-or-mapping o _ _ _ c.is_none_or.ensures (λ x g. search (rules)) f

@@ -1,12 +1,13 @@
--- The header, then the item. Assumes nothing.
-use Rattle.std.proofs.Common.{◌∙◌, rules}
-use Rattle.entries.proofs.Standing.{value-head, valued}
+-- A mapping, then its entries. Assumes nothing.
+use Rattle.meaning.specs.Meanings.{step_at}
+use Rattle.step.proofs.Steps.{step-32}
 use Rattle.step.proofs.read_step.Goals as goal
 
 pub returns-in_default-clause-step : goal.returns-in_default-clause-step
-returns-in_default-clause-step c = λ y g st. absurd (c.in_default.not-Ok _ (c.header_at.ensures.value ∙ value-head y (search rules) st))
+returns-in_default-clause-step c = λ y i. step-32 _ _ y (c.in_default.ensures.entries y i)
 
 pub returns-clause-step : goal.returns-clause-step
-returns-clause-step c = λ y g st.
-    let v = valued c.in-Ok.ensures.value y (search rules) st in
-    c.read_item.ensures.step y g (record { kind_is = v.kind_is; stands = v.inside; ends = v.ends })
+unfolding step_at
+returns-clause-step c = λ y i.
+    let m = c.in-Some.ensures.entries y i in
+    rw m.is (c.read_entries.ensures.step m.entries m.holds)

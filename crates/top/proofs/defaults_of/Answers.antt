@@ -1,21 +1,26 @@
 -- By the kind of the value. Assumes nothing.
 use Rattle.std.proofs.Common.{subst}
+use Rattle.std.proofs.lemmas.Result.{err_from_is_err_and}
 use Rattle.refusal.specs.Base.{Answer}
-use Rattle.nodes.proofs.Items.{part_holds}
 use Rattle.meaning.specs.Meaning.{Defaults}
 use Rattle.top.specs.Contract.{AgreesDefaults}
-use Rattle.top.proofs.DefaultKeys.{defaults-empty, defaults-other, defaults-mapped, mapped-is}
+use Rattle.top.proofs.Parts.{lost}
+use Rattle.top.proofs.DefaultKeys.{defaults-empty, defaults-other, mapped-is}
 use Rattle.top.proofs.defaults_of.Goals as goal
 
-pub returns-then-is_null-clause-defaults : goal.returns-then-is_null-clause-defaults
-returns-then-is_null-clause-defaults c = λ o h. defaults-empty o (c.value_of-value.ensures.value o h) c.if-is_null.true
+pub returns-in_default-clause-defaults : goal.returns-in_default-clause-defaults
+returns-in_default-clause-defaults c = λ o h. defaults-empty o (rw c.in_default.is at (c.other_than_null.ensures.value o h))
 
-pub returns-then-not-is_mapping-clause-defaults : goal.returns-then-not-is_mapping-clause-defaults
-returns-then-not-is_mapping-clause-defaults c = λ o h. defaults-other o (c.value_of-value.ensures.value o h) c.if-is_null.false c.if-not-is_mapping.true
+pub returns-in_err-part-clause-defaults : goal.returns-in_err-part-clause-defaults
+returns-in_err-part-clause-defaults c = λ o h.
+    let f = c.in-Some.ensures.value o h in
+    let l = lost c.in_err-part.ensures.value in
+    let k = rw l.0 at (c.mapping.ensures.entries f.value f.node_is) in
+    let e = err_from_is_err_and c.from_residual.result c.from_residual.ensures.1 in
+    rw (e.1, e.2, l.1) (defaults-other o f c.in-Some.ensures.other k)
 
 pub returns-clause-defaults : goal.returns-clause-defaults
 returns-clause-defaults c = λ o h.
-    let i = c.value_of-value.ensures.value o h in
-    let m = defaults-mapped o i c.if-not-is_mapping.false in
-    subst (λ (a : Answer Defaults). AgreesDefaults c.args.s.bytes.now a c.defaults_in.result) (mapped-is o i c.if-not-is_mapping.false)
-    (rw c.part.ensures.bytes at (c.defaults_in.ensures.defaults m.entries (part_holds c.part.ensures.bytes c.part.ensures.places m.holds)))
+    let f = c.in-Some.ensures.value o h in
+    let m = rw c.in_ok-part.ensures.ok_part at (c.mapping.ensures.entries f.value f.node_is) in
+    subst (λ (a : Answer Defaults). AgreesDefaults a c.defaults_in.result) (mapped-is o f m) (c.defaults_in.ensures.defaults m.entries m.holds)

@@ -2,62 +2,75 @@
 use Rattle.std.proofs.lemmas.Result.{err_from_is_err_and}
 use Rattle.refusal.specs.Base.{bytes}
 use Rattle.top.proofs.Parts.{top-25, top-26, top-27, top-defaults, top-31, top_read, lost}
+use Rattle.nodes.proofs.Texts.{node_of}
 use Rattle.top.proofs.read_fields.Goals as goal
 
 pub returns-in_err-ok_or-clause-fields : goal.returns-in_err-ok_or-clause-fields
 unfolding bytes
 returns-in_err-ok_or-clause-fields c = λ y es p h.
     let l = lost c.in_err-ok_or.ensures.value in
-    let n = rw l.0 at (c.scalar_found.ensures.text _ (rw (← c.encoded-s.ensures) at (c.find-name.ensures.value es h))) in
+    let n = rw l.0 at (c.scalar_of.ensures.text _ (c.value_of-name.ensures.value es h)) in
     let e = err_from_is_err_and c.from_residual.result c.from_residual.ensures.1 in
     rw (e.1, e.2, l.1) (top-25 p n)
 
 pub returns-in_err-tags-clause-fields : goal.returns-in_err-tags-clause-fields
 unfolding bytes
 returns-in_err-tags-clause-fields c = λ y es p h.
-    let n = rw c.in_ok-ok_or.ensures.ok_part at (c.scalar_found.ensures.text _ (rw (← c.encoded-s.ensures) at (c.find-name.ensures.value es h))) in
+    let n = rw c.in_ok-ok_or.ensures.ok_part at (c.scalar_of.ensures.text _ (c.value_of-name.ensures.value es h)) in
     let l = lost c.in_err-tags.ensures.value in
-    let t = rw l.0 at (c.sequence_of.ensures.items _ (rw (← c.encoded-s.ensures) at (c.find.ensures.value es h))) in
+    let t = rw l.0 at (c.sequence_of.ensures.items es h) in
     let e = err_from_is_err_and c.from_residual-in_err-tags.result c.from_residual-in_err-tags.ensures.1 in
     rw (e.1, e.2, l.1) (top-26 p n (t 26))
 
 pub returns-in_err-fail_on-clause-fields : goal.returns-in_err-fail_on-clause-fields
 unfolding bytes
 returns-in_err-fail_on-clause-fields c = λ y es p h.
-    let n = rw c.in_ok-ok_or.ensures.ok_part at (c.scalar_found.ensures.text _ (rw (← c.encoded-s.ensures) at (c.find-name.ensures.value es h))) in
-    let t = rw c.in_ok-tags.ensures.ok_part at (c.sequence_of.ensures.items _ (rw (← c.encoded-s.ensures) at (c.find.ensures.value es h))) in
+    let n = rw c.in_ok-ok_or.ensures.ok_part at (c.scalar_of.ensures.text _ (c.value_of-name.ensures.value es h)) in
+    let t = rw c.in_ok-tags.ensures.ok_part at (c.sequence_of.ensures.items es h) in
     let l = lost c.in_err-fail_on.ensures.value in
-    let f = rw l.0 at (c.sequence_of-2.ensures.items _ (rw (← c.encoded-s.ensures) at (c.find-2.ensures.value es h))) in
+    let f = rw l.0 at (c.sequence_of-2.ensures.items es h) in
     let e = err_from_is_err_and c.from_residual-in_err-fail_on.result c.from_residual-in_err-fail_on.ensures.1 in
     rw (e.1, e.2, l.1) (top-27 p n (t.is 26) (f 27))
 
 pub returns-in_err-defaults-clause-fields : goal.returns-in_err-defaults-clause-fields
 unfolding bytes
 returns-in_err-defaults-clause-fields c = λ y es p h.
-    let n = rw c.in_ok-ok_or.ensures.ok_part at (c.scalar_found.ensures.text _ (rw (← c.encoded-s.ensures) at (c.find-name.ensures.value es h))) in
-    let t = rw c.in_ok-tags.ensures.ok_part at (c.sequence_of.ensures.items _ (rw (← c.encoded-s.ensures) at (c.find.ensures.value es h))) in
-    let f = rw c.in_ok-fail_on.ensures.ok_part at (c.sequence_of-2.ensures.items _ (rw (← c.encoded-s.ensures) at (c.find-2.ensures.value es h))) in
+    let n = rw c.in_ok-ok_or.ensures.ok_part at (c.scalar_of.ensures.text _ (c.value_of-name.ensures.value es h)) in
+    let t = rw c.in_ok-tags.ensures.ok_part at (c.sequence_of.ensures.items es h) in
+    let f = rw c.in_ok-fail_on.ensures.ok_part at (c.sequence_of-2.ensures.items es h) in
     let e = err_from_is_err_and c.from_residual-in_err-defaults.result c.from_residual-in_err-defaults.ensures.1 in
-    rw (e.1, e.2) (top-defaults p n (t.is 26) (f.is 27) (c.in_err-defaults.ensures.defaults _ (rw (← c.encoded-s.ensures) at (c.find-3.ensures.value es h))))
+    rw (e.1, e.2) (top-defaults p n (t.is 26) (f.is 27) (c.in_err-defaults.ensures.defaults _ (c.value_of.ensures.value es h)))
 
 pub returns-in_err-steps-clause-fields : goal.returns-in_err-steps-clause-fields
 unfolding bytes
 returns-in_err-steps-clause-fields c = λ y es p h.
-    let n = rw c.in_ok-ok_or.ensures.ok_part at (c.scalar_found.ensures.text _ (rw (← c.encoded-s.ensures) at (c.find-name.ensures.value es h))) in
-    let t = rw c.in_ok-tags.ensures.ok_part at (c.sequence_of.ensures.items _ (rw (← c.encoded-s.ensures) at (c.find.ensures.value es h))) in
-    let f = rw c.in_ok-fail_on.ensures.ok_part at (c.sequence_of-2.ensures.items _ (rw (← c.encoded-s.ensures) at (c.find-2.ensures.value es h))) in
-    let d = c.in_ok-defaults.ensures.defaults _ (rw (← c.encoded-s.ensures) at (c.find-3.ensures.value es h)) in
+    let n = rw c.in_ok-ok_or.ensures.ok_part at (c.scalar_of.ensures.text _ (c.value_of-name.ensures.value es h)) in
+    let t = rw c.in_ok-tags.ensures.ok_part at (c.sequence_of.ensures.items es h) in
+    let f = rw c.in_ok-fail_on.ensures.ok_part at (c.sequence_of-2.ensures.items es h) in
+    let d = c.in_ok-defaults.ensures.defaults _ (c.value_of.ensures.value es h) in
     let l = lost c.in_err-steps.ensures.value in
-    let z = rw l.0 at (c.sequence_of-3.ensures.items _ (rw (← c.encoded-s.ensures) at (c.find-4.ensures.value es h))) in
+    let z = rw l.0 at (c.sequence_of-3.ensures.items es h) in
     let e = err_from_is_err_and c.from_residual-in_err-steps.result c.from_residual-in_err-steps.ensures.1 in
     rw (e.1, e.2, l.1) (top-31 p n (t.is 26) (f.is 27) d.is (z 31))
 
 pub returns-clause-fields : goal.returns-clause-fields
 unfolding bytes
 returns-clause-fields c = λ y es p h.
-    let n = rw c.in_ok-ok_or.ensures.ok_part at (c.scalar_found.ensures.text _ (rw (← c.encoded-s.ensures) at (c.find-name.ensures.value es h))) in
-    let t = rw c.in_ok-tags.ensures.ok_part at (c.sequence_of.ensures.items _ (rw (← c.encoded-s.ensures) at (c.find.ensures.value es h))) in
-    let f = rw c.in_ok-fail_on.ensures.ok_part at (c.sequence_of-2.ensures.items _ (rw (← c.encoded-s.ensures) at (c.find-2.ensures.value es h))) in
-    let d = rw c.encoded-s.ensures at (c.in_ok-defaults.ensures.defaults _ (rw (← c.encoded-s.ensures) at (c.find-3.ensures.value es h))) in
-    let z = rw c.in_ok-steps.ensures.ok_part at (c.sequence_of-3.ensures.items _ (rw (← c.encoded-s.ensures) at (c.find-4.ensures.value es h))) in
-    top_read p _ n t f d (c.find-name.ensures.value es h) (c.find-5.ensures.value es h) (c.find-6.ensures.value es h) (c.find-7.ensures.value es h) z
+    let n = rw c.in_ok-ok_or.ensures.ok_part at (c.scalar_of.ensures.text _ (c.value_of-name.ensures.value es h)) in
+    let t = rw c.in_ok-tags.ensures.ok_part at (c.sequence_of.ensures.items es h) in
+    let f = rw c.in_ok-fail_on.ensures.ok_part at (c.sequence_of-2.ensures.items es h) in
+    let d = (c.in_ok-defaults.ensures.defaults _ (c.value_of.ensures.value es h)) in
+    let z = rw c.in_ok-steps.ensures.ok_part at (c.sequence_of-3.ensures.items es h) in
+    top_read p _ n t f d (c.value_of-name.ensures.value es h) (c.value_of-2.ensures.value es h) (c.value_of-3.ensures.value es h) (c.value_of-4.ensures.value es h) z
+
+pub returns-clause-inside : goal.returns-clause-inside
+returns-clause-inside c = record {
+  name = node_of _ _ c.value_of-name.ensures.bytes;
+  description = node_of _ _ c.value_of-2.ensures.bytes;
+  tags = rw c.in_ok-tags.ensures.ok_part at c.sequence_of.ensures.bytes;
+  image = node_of _ _ c.value_of-3.ensures.bytes;
+  setup = node_of _ _ c.value_of-4.ensures.bytes;
+  defaults = c.in_ok-defaults.ensures.inside _ (node_of _ _ c.value_of.ensures.bytes);
+  fail_on = rw c.in_ok-fail_on.ensures.ok_part at c.sequence_of-2.ensures.bytes;
+  steps = rw c.in_ok-steps.ensures.ok_part at c.sequence_of-3.ensures.bytes;
+}

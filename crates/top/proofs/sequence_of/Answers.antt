@@ -1,15 +1,14 @@
 -- By the kind of the value. Assumes nothing.
-use Rattle.top.proofs.Values.{sequence-empty, sequence-there, sequence-other}
+use Rattle.std.proofs.Common.{rules}
+use Rattle.top.proofs.Values.{sequence-empty, sequence-there}
 use Rattle.top.proofs.sequence_of.Goals as goal
-use Rattle.top.proofs.sequence_of.Goals.{else-not-is_null-via-then-not-is_null+else-not-is_sequence, else-not-is_null-via-else-not-is_null}
 
-pub returns-then-not-is_sequence-clause-items : goal.returns-then-not-is_sequence-clause-items
-returns-then-not-is_sequence-clause-items c = λ o h. sequence-other o (c.value_of-value.ensures.value o h) c.if-not-is_null.true c.if-not-is_sequence.true
+pub returns-in-Some-clause-items : goal.returns-in-Some-clause-items
+returns-in-Some-clause-items c = λ es h.
+    let f = c.in-Some.ensures.value _ (c.value_of.ensures.value es h) in
+    sequence-there _ c.sequence.result c.in-Some.ensures.other f (c.sequence.ensures.items f.value f.node_is)
 
-pub returns-clause-items : goal.returns-clause-items
-returns-clause-items c = λ o h.
-    let i = c.value_of-value.ensures.value o h in
-    elim c.else-not-is_null.branch [
-      | else-not-is_null-via-then-not-is_null+else-not-is_sequence w ↦ sequence-there o i c.part.ensures.bytes c.part.ensures.places w.if-not-is_sequence.false
-      | else-not-is_null-via-else-not-is_null w ↦ sequence-empty o i c.part.ensures.bytes c.part.ensures.places w.if-not-is_null.false
-    ]
+pub returns-in-None-clause-items : goal.returns-in-None-clause-items
+returns-in-None-clause-items c = λ es h.
+    let p = c.part.ensures.places (search rules) (search rules) in
+    sequence-empty _ _ (c.in-None.ensures.value _ (c.value_of.ensures.value es h)) p.0 p.1

@@ -1,5 +1,4 @@
 use Rattle.std.proofs.Common.{rules, arith, ◌≡◌, ℕ, List, Bor, length, drop, refl, sym, ap, ◌∙◌, subst, ◌<◌, length-drop}
-use Rattle.std.proofs.lemmas.Bool.{false≢true}
 use Rattle.std.proofs.Math.Bool.{Bool as Truth}
 use Rattle.value.specs.Tree.{accepts}
 use Rattle.value.proofs.Contents.{no_kind}
@@ -14,7 +13,6 @@ use Rattle.entries.specs.Entries.{Lies}
 use Rattle.entries.proofs.Walking.{cut, lies_in}
 use Rattle.item.proofs.Turns.{turn, stop}
 use Rattle.value.proofs.+values.Goals as goal
-use Rattle.value.proofs.+values.Goals.{entries-then-key-via-then-key, entries-then-key-via-else-key+then-not-is_utf8}
 
 -- no kind of a value
 unnamed : {n : ℕ} {unknown : UnknownKind} → NamesKind n (Err unknown) → 5 < n
@@ -44,14 +42,11 @@ entries-returns-in_default-key n c =
     let t = stop _ _ i.0 i.1 c.in-Some.ensures.steps c.in_default-key.is in
     entries-fail i.2 t.before (λ turns. no_key c.args.levels (drop c.loop-key.walk.at c.args.s.bytes.now) (omega (arith, t.before, length-drop c.loop-key.walk.at c.args.s.bytes.now)) turns (no-item-there c.args.s.bytes.now c.loop-key.walk.at t.is))
 
-pub entries-returns-then-key : goal.entries-returns-then-key
-entries-returns-then-key n c =
+pub entries-returns-then-not-is_text : goal.entries-returns-then-not-is_text
+entries-returns-then-not-is_text n c =
     let i = c.loop-key.invariant in
     let t = turn _ _ i.0 i.1 c.in-Some.ensures.steps c.in-Ok.is in
-    entries-fail i.2 t.before (key-bad c.args.levels c.args.s.bytes.now _ t.is t.before (elim c.then-key.branch [
-      | entries-then-key-via-then-key b ↦ λ three u. b.if-key.true three
-      | entries-then-key-via-else-key+then-not-is_utf8 b ↦ λ three u. false≢true (sym (sym b.is_utf8.ensures ∙ b.if-not-is_utf8.true) ∙ u)
-    ]))
+    entries-fail i.2 t.before (key-bad c.args.levels c.args.s.bytes.now _ t.is t.before (sym c.is_text.ensures ∙ c.if-not-is_text.true))
 
 pub entries-returns-in_default-next : goal.entries-returns-in_default-next
 entries-returns-in_default-next n c =
@@ -59,7 +54,7 @@ entries-returns-in_default-next n c =
     let i = c.loop-key.invariant in
     let t = turn _ _ i.0 i.1 c.in-Some.ensures.steps c.in-Ok.is in
     let e = value-missing a.levels a.s.bytes.now _ (omega (arith, t.end, c.in_default-next.ensures.steps.0)) in
-    entries-fail i.2 t.before (beside-bad a.levels a.s.bytes.now _ t.is t.before c.if-key.false (rw (← t.next) e))
+    entries-fail i.2 t.before (beside-bad a.levels a.s.bytes.now _ t.is t.before (sym c.is_text.ensures ∙ c.if-not-is_text.false) (rw (← t.next) e))
 
 pub entries-returns-in_default-item : goal.entries-returns-in_default-item
 entries-returns-in_default-item n c =
@@ -68,7 +63,7 @@ entries-returns-in_default-item n c =
     let t = turn _ _ i.0 i.1 c.in-Some.ensures.steps c.in-Ok.is in
     let u = stop _ _ t.bytes t.end c.in-Some-next.ensures.steps c.in_default-item.is in
     let e = value-broken a.levels a.s.bytes.now _ u.is in
-    entries-fail i.2 t.before (beside-bad a.levels a.s.bytes.now _ t.is t.before c.if-key.false (rw (← t.next) e))
+    entries-fail i.2 t.before (beside-bad a.levels a.s.bytes.now _ t.is t.before (sym c.is_text.ensures ∙ c.if-not-is_text.false) (rw (← t.next) e))
 
 pub entries-returns-then-not-value : goal.entries-returns-then-not-value
 entries-returns-then-not-value n c =
@@ -77,7 +72,7 @@ entries-returns-then-not-value n c =
     let t = turn _ _ i.0 i.1 c.in-Some.ensures.steps c.in-Ok.is in
     let u = turn _ _ t.bytes t.end c.in-Some-next.ensures.steps c.in-Ok-item.is in
     let e = value-bad a.levels a.s.bytes.now _ u.is (lent _ _ c.slice.ensures c.value.ensures c.if-not-value.true) in
-    entries-fail i.2 t.before (beside-bad a.levels a.s.bytes.now _ t.is t.before c.if-key.false (rw (← t.next) e))
+    entries-fail i.2 t.before (beside-bad a.levels a.s.bytes.now _ t.is t.before (sym c.is_text.ensures ∙ c.if-not-is_text.false) (rw (← t.next) e))
 
 pub entries-loop-key-preserved : goal.entries-loop-key-preserved
 entries-loop-key-preserved n c =
@@ -86,7 +81,7 @@ entries-loop-key-preserved n c =
     let t = turn _ _ i.0 i.1 c.in-Some.ensures.steps c.in-Ok.is in
     let u = turn _ _ t.bytes t.end c.in-Some-next.ensures.steps c.in-Ok-item.is in
     let r = value-read a.levels a.s.bytes.now _ u.is (lent _ _ c.slice.ensures c.value.ensures c.if-not-value.false) in
-    let o = entry-read a.levels a.s.bytes.now _ t.is t.before c.if-key.false (sym c.is_utf8.ensures ∙ c.if-not-is_utf8.false) (rw (← t.next) r) in
+    let o = entry-read a.levels a.s.bytes.now _ t.is t.before (sym c.is_text.ensures ∙ c.if-not-is_text.false) (rw (← t.next) r) in
     (u.bytes, u.end, rw u.next (entries_next i.2 t.before o))
 
 pub entries-returns : goal.entries-returns

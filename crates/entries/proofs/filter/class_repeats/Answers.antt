@@ -5,8 +5,7 @@ use Rattle.item.specs.Encode.{encode}
 use Rattle.entries.specs.Entries.{Lies}
 use Rattle.entries.specs.Contract.{hash_of, Has, Marked, of_class}
 use Rattle.entries.specs.declared.Pair.{Pair}
-use Rattle.entries.proofs.Standing.{stands-part}
-use Rattle.entries.proofs.Walking.{Turn, turn, no-entry, step, stop, Cut, cut}
+use Rattle.entries.proofs.Walking.{Turn, turn, no-entry, step, stop, Cut, cut, has_in}
 use Rattle.entries.proofs.Twice.{Passed, passed_none, passed-all, passed-again, passed_on, of_class_lem, class_of}
 use Rattle.entries.proofs.filter.class_repeats.Goals as goal
 use Rattle.entries.proofs.filter.class_repeats.Goals.{else-is_of_class-via-then-is_of_class+else-mark, else-is_of_class-via-else-is_of_class}
@@ -36,9 +35,9 @@ module _ {s : List ℕ} {from to at : ℕ} {seen : List ℕ} {es : Entries} {p :
 sought : {whole part : Bor (List ℕ)} {start end from until at to : ℕ} {f : List ℕ → Bool} {seen : List ℕ} {es : Entries} {p : Pair} (w : Passed whole.now from until f es at seen) (t : Turn whole.now at until w.rest p) {b : Bool} → to ≡ at
     → (from ≤ to → to ≤ length whole.now → Cut whole part start end from to)
     → ((fs : Entries) → take (end - start) (drop start part.now) ≡ encode fs → b ≡ has_key (take (p.end - p.start) (drop p.start whole.now)) fs) → b ≡ has_key t.entry.k w.front
-sought w t n g e =
-    let c = g (omega (arith, n, w.before.ends)) (omega (arith, n, w.before.ends, w.before.stands.within)) in
-    e w.front (rw (c.bytes, c.first, c.last) (stands-part w.before.stands _ (omega (arith, n, w.before.ends)))) ∙ ap (λ (k : List ℕ). has_key k w.front) t.key_is
+sought {whole = whole} {from = from} w t n g e =
+    let before = subst (λ (i : ℕ). Lies whole.now from i w.front) (sym n) w.before in
+    has_in _ (g (omega (arith, n, w.before.ends)) (omega (arith, n, w.before.ends, w.before.stands.within))) before e ∙ ap (λ (k : List ℕ). has_key k w.front) t.key_is
 
 pub loop-pair-init : goal.loop-pair-init
 loop-pair-init c =
@@ -58,7 +57,7 @@ returns-then-has_key-clause-told c = λ es h.
     let t = step _ _ i.0 i.1 c.in-Some.ensures.steps c.in-Ok.is in
     let w = i.4 es h in
     let e = turn w.rest (search rules) t.before t.is w.behind in
-    sym (passed-again w e (in_class c.args.class c.args.last w e c.hash-h.ensures c.if-is_of_class.true) (sym (sought w e (omega (arith, t.places.first)) (cut c.encoded.ensures c.part-before.ensures.bytes c.part-before.ensures.places) c.has_key.ensures) ∙ c.if-has_key.true))
+    sym (passed-again w e (in_class c.args.class c.args.last w e c.hash-hash.ensures c.if-is_of_class.true) (sym (sought w e (omega (arith, t.places.first)) (cut c.encoded.ensures c.part-before.ensures.bytes c.part-before.ensures.places) c.has_key.ensures) ∙ c.if-has_key.true))
 
 pub loop-pair-preserved-then-mark : goal.loop-pair-preserved-then-mark
 loop-pair-preserved-then-mark c =
@@ -72,7 +71,7 @@ loop-pair-preserved-then-mark c =
           let w = i.4 es h in
           let e = turn w.rest (search rules) t.before t.is w.behind in
           subst (λ (n : ℕ). Passed c.args.part.bytes.now c.args.part.from c.args.part.to (of_class c.args.class c.args.last) es n c.mark.new.seen) (sym t.next)
-          (on c.args.class c.args.last w e c.hash-h.ensures c.mark.ensures (λ _ f. false≢true (sym c.if-has_key.false ∙ sought w e (omega (arith, t.places.first)) (cut c.encoded.ensures c.part-before.ensures.bytes c.part-before.ensures.places) c.has_key.ensures ∙ f))),
+          (on c.args.class c.args.last w e c.hash-hash.ensures c.mark.ensures (λ _ f. false≢true (sym c.if-has_key.false ∙ sought w e (omega (arith, t.places.first)) (cut c.encoded.ensures c.part-before.ensures.bytes c.part-before.ensures.places) c.has_key.ensures ∙ f))),
     )
 
 pub loop-pair-preserved : goal.loop-pair-preserved
@@ -88,14 +87,14 @@ loop-pair-preserved c =
         λ es h.
             let w = i.4 es h in
             let e = turn w.rest (search rules) t.before t.is w.behind in
-            subst (λ (x : List ℕ). Passed a.part.bytes.now a.part.from a.part.to (of_class a.class a.last) es p.next x) (sym b.seen-is) (on c.args.class c.args.last w e c.hash-h.ensures b.mark.ensures (λ q f. b.mark.ensures.told (new-bits c.args.class c.args.last w e c.hash-h.ensures q f) b.if-mark.false)),
+            subst (λ (x : List ℕ). Passed a.part.bytes.now a.part.from a.part.to (of_class a.class a.last) es p.next x) (sym b.seen-is) (on c.args.class c.args.last w e c.hash-hash.ensures b.mark.ensures (λ q f. b.mark.ensures.told (new-bits c.args.class c.args.last w e c.hash-hash.ensures q f) b.if-mark.false)),
       )
       | else-is_of_class-via-else-is_of_class b ↦ (
         ap length b.seen-is ∙ i.3,
         λ es h.
             let w = i.4 es h in
             let e = turn w.rest (search rules) t.before t.is w.behind in
-            subst (λ (x : List ℕ). Passed a.part.bytes.now a.part.from a.part.to (of_class a.class a.last) es p.next x) (sym b.seen-is) (other c.args.class c.args.last w e c.hash-h.ensures b.if-is_of_class.false),
+            subst (λ (x : List ℕ). Passed a.part.bytes.now a.part.from a.part.to (of_class a.class a.last) es p.next x) (sym b.seen-is) (other c.args.class c.args.last w e c.hash-hash.ensures b.if-is_of_class.false),
       )
     ] in
     (t.bytes, t.end, omega (arith, i.2, t.next, t.places.first, t.places.key, t.places.value), kept.0, λ es h. subst (λ (n : ℕ). Passed a.part.bytes.now a.part.from a.part.to (of_class a.class a.last) es n seen) (sym t.next) (kept.1 es h))

@@ -6,6 +6,6 @@ use Rattle.scalar.specs.Contract.{quoted_of}
 use Rattle.scalar.proofs.quoted_text.put_bytes.Given as goal
 
 abbrev pub invariant-loop : goal.invariant-loop
-invariant-loop l = (l.place ≤ length l.s) × (l.writer.used ≡ l.fn.writer.used + l.counter) × (cap_of l.writer ≡ cap_of l.fn.writer)
-    × ((cap : ℕ) (t rest : List ℕ) → quoted_of l.quote cap l.line (drop l.i l.s) ≡ good (t, rest) → length t ≡ l.size
-    → Appends l.fn.writer l.writer (take l.counter t) × (quoted_of l.quote cap l.line (drop l.place l.s) ≡ good (drop l.counter t, rest)))
+invariant-loop l = (l.place ≤ length l.string.s.now) × (l.writer.used ≡ l.fn.writer.used + l.counter) × (cap_of l.writer ≡ cap_of l.fn.writer)
+    × ((cap : ℕ) (t rest : List ℕ) → quoted_of l.string.quote cap l.string.line (drop l.string.from l.string.s.now) ≡ good (t, rest) → length t ≡ l.size
+    → Appends l.fn.writer l.writer (take l.counter t) × (quoted_of l.string.quote cap l.string.line (drop l.place l.string.s.now) ≡ good (drop l.counter t, rest)))

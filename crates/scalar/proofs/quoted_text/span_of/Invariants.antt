@@ -5,7 +5,7 @@ use Rattle.scalar.proofs.QuoteLaws.{Passed}
 use Rattle.scalar.proofs.quoted_text.span_of.Given as goal
 
 abbrev pub invariant-loop-next : goal.invariant-loop-next
-invariant-loop-next l = (l.i + l.size ≤ l.place) × (l.place ≤ length l.s) × ((cap : ℕ) → Passed cap l.line (quoted_of l.quote cap l.line) l.s l.i l.place l.size)
+invariant-loop-next l = (l.string.from + l.size ≤ l.place) × (l.place ≤ length l.string.s.now) × ((cap : ℕ) → Passed cap l.string.line (quoted_of l.string.quote cap l.string.line) l.string.s.now l.string.from l.place l.size)
 
 abbrev pub decreases-loop-next : goal.decreases-loop-next
-decreases-loop-next l = length l.s - l.place
+decreases-loop-next l = length l.string.s.now - l.place

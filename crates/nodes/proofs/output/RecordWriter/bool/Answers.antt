@@ -6,4 +6,4 @@ use Rattle.nodes.proofs.output.RecordWriter.bool.Goals as goal
 
 pub returns : goal.returns
 unfolding encode
-returns c = rw (← bool-flag c.args.value) (writes_item c.open-header.ensures c.put.ensures c.close.ensures)
+returns c = rw (← bool-flag c.args.value, ← c.from.ensures) (writes_item c.open-header.ensures c.put.ensures c.close.ensures)
