@@ -110,7 +110,7 @@ fn check_inner(steps: Part<'_>, outer: Site<'_>) -> Result<(), Refusal>
             item,
         };
         // These have no lines: 0 names none, as in the definition.
-        let step = read_step(node, 0, number)?;
+        let step = read_step(Some(node), 0, number)?;
         all_known &= is_known(outer.names, step.key);
     }
     if all_known {

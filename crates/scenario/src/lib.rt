@@ -81,7 +81,7 @@ fn put_steps(
             bytes: part.bytes,
             item,
         };
-        step_at(node, dash.line, number, writer)?;
+        step_at(Some(node), dash.line, number, writer)?;
         store(lines, steps, dash.line);
         steps += 1;
         next = dash.next;

@@ -23,6 +23,11 @@ use Rattle.step.specs.declared.StepEntries.{StepEntries}
 
 -- ---- a step by its values
 
+-- a value that stands as a node, which is there
+abbrev pub StandsAs : Yaml → Maybe Node → Type 0
+StandsAs y (Some node) = IsNode y node
+StandsAs y None = ⊥
+
 -- a key's value that is absent or a mapping
 unfoldable pub mapping : Option Entries → Option Yaml
 mapping none = none

@@ -1,16 +1,16 @@
 // A step in the bytes of its mapping: read as its values where they stand, which writes nothing, and written from them as its item.
 #![tactic(auto)]
 
-ghost use Rattle.std.specs.Prelude.{◌≡◌, ◌^◌, IfOk};
+ghost use Rattle.std.specs.Prelude.{◌≡◌, ◌^◌, List, ℕ, IfOk};
 ghost use Rattle.std.proofs.Math.Option.{Option};
 ghost use Rattle.item.specs.Tree.{Yaml, Entries};
 ghost use Rattle.entries.specs.Entries.{HoldsIn};
 ghost use Rattle.nodes.specs.Writing.{GoesAtMost, Writes};
-ghost use Rattle.nodes.specs.Contract.{IsNode, FindsNode, AgreesPart};
+ghost use Rattle.nodes.specs.Contract.{NodeOf, FindsNode, AgreesPart};
 ghost use Rattle.meaning.specs.Meaning.{Step};
 ghost use Rattle.meaning.specs.Record.{step_item};
 ghost use Rattle.meaning.specs.Meanings.{is_true, step_of, step_at};
-ghost use Rattle.step.specs.Contract.{StepStands, AgreesStep, AgreesExpect, AgreesAllowed, AgreesEntries, EntriesInside, StepInside, field_with, command_with};
+ghost use Rattle.step.specs.Contract.{StepStands, AgreesStep, AgreesExpect, AgreesAllowed, AgreesEntries, EntriesInside, StepInside, StandsAs, field_with, command_with};
 
 mod parts;
 
@@ -146,12 +146,15 @@ fn read_entries(part: Part<'_>, line: u32, number: u32) -> Result<StepNodes<'_>,
     Ok(StepNodes { fields, key, value })
 }
 
-/// The step that a value is, in this line and with this number.
+/// The step that a value is, in this line and with this number. Where none stands it is refused as one that is no mapping.
 // The two go side by side, as each refusal and the definition `step_at` name them: a struct would be taken apart again three times.
-pub fn read_step(node: Node<'_>, line: u32, number: u32) -> Result<StepNodes<'_>, Refusal>
-    ensures inside { IfOk result (StepInside node.entry.bytes.now) }
-    ensures step { (y : Yaml) → IsNode y node.entry → AgreesStep (step_at line number y) result }
+pub fn read_step(node: Option<Node<'_>>, line: u32, number: u32) -> Result<StepNodes<'_>, Refusal>
+    ensures inside { (s : List ℕ) → NodeOf s node.entry → IfOk result (StepInside s) }
+    ensures step { (y : Yaml) → StandsAs y node.entry → AgreesStep (step_at line number y) result }
 {
+    let Some(node) = node else {
+        return Err(Refusal::StepNotMapping { step: number });
+    };
     let Some(entries) = node.mapping() else {
         return Err(Refusal::StepNotMapping { step: number });
     };
@@ -198,13 +201,13 @@ fn put_step(step: StepNodes<'_>, writer: &mut RecordWriter<'_>)
 
 /// The step that a value is, in this line and with this number, written as its item.
 pub fn step_at(
-    node: Node<'_>,
+    node: Option<Node<'_>>,
     line: u32,
     number: u32,
     writer: &mut RecordWriter<'_>,
 ) -> Result<(), Refusal>
     ensures goes { GoesAtMost (2 ^ 24) writer.old writer.new }
-    ensures step { (y : Yaml) → IsNode y node.entry → AgreesPart (step_at line number y) step_item writer.old writer.new result }
+    ensures step { (y : Yaml) → StandsAs y node.entry → AgreesPart (step_at line number y) step_item writer.old writer.new result }
 {
     let step = read_step(node, line, number)?;
     put_step(step, writer);
