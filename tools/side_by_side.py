@@ -3,15 +3,16 @@
 
 usage: python3 tools/side_by_side.py OLD NEW   at the top of the repository
 
-Prints three tables, of the libraries alone: public functions with their clauses, public types and constants, and the definitions of specs/; then a list of
-the public lemmas of proofs/ that are gone under any spelling. Where only white space changed, a row is left out, as are crates whose functions are the same."""
+Prints three tables, of the libraries alone: public functions with their clauses, public types and constants, and the definitions of specs/; then two lists
+of the lemmas of proofs/ that are gone from their crate under any spelling: those that stand in another crate now, and the others, the private ones of a
+module behind its public ones. Where only white space changed, a row is left out, as are crates whose functions are the same."""
 import re
 import subprocess
 import sys
 
 PROGRAMS = {'replay', 'drumcheck', 'drumread', 'drumrecord', 'drumshow', 'replay_utf8'}
 START = re.compile(r'( *)(?:abbrev pub|unfoldable pub|pub record|pub data|pub(?! mod)|abbrev|record|data|unfoldable) (?:abbrev |unfoldable )?(\S+)')
-LEMMA = re.compile(r'\s*(?:abbrev |unfoldable )?pub (?:abbrev |unfoldable )?(?:record |data )?([^\s:({]+)(?: |$)')
+LEMMA = re.compile(r'( *)(?:(?:abbrev|unfoldable|pub|record|data) )*([^\s:({]+)(?: [^:]*)? :(?: |$)')
 
 
 def git(*words):
@@ -81,10 +82,18 @@ def lemmas(commit):
     for crate, module, text in files(commit, r'crates/([^/]+)/proofs/(.*)\.antt'):
         if '/' in module and module.endswith(('Answers', 'Invariants')) or module.endswith('Lib'):
             continue
+        depth = 0
         for line in text.split('\n'):
+            indent = len(line) - len(line.lstrip(' '))
+            if line.strip():
+                depth = min(depth, indent)
+            if re.match(r' *module .* where$', line):
+                depth = indent + 2
+                continue
             found = LEMMA.match(line)
-            if found and found.group(1) not in ('use', 'mod', 'abbrev', 'unfoldable', 'record', 'data'):
-                rows.setdefault(crate, {}).setdefault(found.group(1), module)
+            public = re.match(r' *(?:\w+ )*?pub ', line) is not None
+            if found and (public or indent == depth) and found.group(2) not in ('use', 'unfolding', '--', 'module'):
+                rows.setdefault(crate, {}).setdefault(found.group(2), (module, public))
     return rows
 
 
@@ -97,15 +106,34 @@ def table(title, old, new):
     print()
 
 
+def spelled(name):
+    return name.replace('-', '_')
+
+
+def listed(title, rows):
+    print(title)
+    for crate in sorted(rows):
+        print(f'- **{crate}.** ' + '; '.join(f'`{module}`: ' + ', '.join(names) for module, names in sorted(rows[crate].items())) + '.')
+    print()
+
+
 def gone(old, new):
-    left = {name.replace('-', '_') for crate in new.values() for name in crate}
-    for crate in sorted(old):
-        modules = {}
-        for name, module in old[crate].items():
-            if name.replace('-', '_') not in left:
-                modules.setdefault(module, []).append(name)
-        if modules:
-            print(f'- **{crate}.** ' + '; '.join(f'`{m}`: ' + ', '.join(f'`{n}`' for n in sorted(names)) for m, names in sorted(modules.items())) + '.')
+    homes = {}
+    for crate in new:
+        for name in new[crate]:
+            homes.setdefault(spelled(name), []).append(crate)
+    moved, lost, private = {}, {}, {}
+    for crate in old:
+        for name, (module, public) in sorted(old[crate].items()):
+            home = homes.get(spelled(name), [])
+            if crate in home:
+                continue
+            rows = private if not public else moved if home else lost
+            told = f'`{name}`' + (f" ({', '.join(sorted(home))})" if public and home else '')
+            rows.setdefault(crate, {}).setdefault(module, []).append(told)
+    listed('Gone from their crate, of a name that stands in another:', moved)
+    listed('Gone:', lost)
+    listed('Gone, private to their module:', private)
 
 
 if __name__ == '__main__':

@@ -1,6 +1,7 @@
 -- Where the loops over lines stand, what each of their turns comes to, and what closes a collection. Assumes nothing.
 use Rattle.std.proofs.Common.{◌≡◌, refl, sym, ap, ◌∙◌, subst, ℕ, zero, suc, ◌+◌, ◌-◌, ◌≤◌, ◌<◌, arith, List, [], ◌∷◌, ◌++◌, append_assoc, Bool, true, false, ◌&&◌, length, take, drop, length-append, length-drop, drop_at, take_at, take_all, length-take-le, Ok, Err}
 use Rattle.std.proofs.Math.Option.{none, some}
+use Rattle.std.proofs.lemmas.Bool.{and_parts}
 use Rattle.std.proofs.lemmas.List.Edits.{sets-eq}
 use Rattle.refusal.specs.Base.{good, refused, ◌>>=◌, ◌>>◌, ensure, maybe}
 use Rattle.refusal.specs.Told.{refusal}
@@ -10,7 +11,6 @@ use Rattle.utf8.specs.White.{trim_start}
 use Rattle.item.specs.Tree.{Yaml, seq, dict, Items, end, ◌◂◌, Entries, done, pair, add, has_key}
 use Rattle.item.specs.Encode.{head, item, encode}
 use Rattle.item.proofs.Size.{head-length}
-use Rattle.item.proofs.Exact.{and_right}
 use Rattle.writer.specs.declared.Writer.{Writer}
 use Rattle.writer.specs.Writing.{cap_of, room_of, Appends, Begins, Fills, CutsBack}
 use Rattle.writer.proofs.Laws.{appends_none, appends_more, filled, len_appended, keeps_appended, keeps_begun, keeps_same, keeps_more, keeps_cut}
@@ -54,12 +54,16 @@ module _ (s before front key tree : List ℕ) (from p e : ℕ) (b : s ≡ before
 
 -- ---- the entries of a mapping
 
+-- all of them, behind what a writer has
+abbrev pub whole : List Line → ℕ → ℕ → ℕ → Writer → Read Entries
+whole ls first indent levels w = entries_of (cap_of w) (within (cap_of w) levels) indent w.used (drop first ls)
+
 -- the entries so far, from whose end the definition goes on as from the start unless a key stands twice among them; `turns` are left
 pub record Mapped (ls : List Line) (first indent levels : ℕ) (exact : Bool) (old now : Writer) (i : ℕ) : Type 0 where
   pub got : Entries
   pub turns : ℕ
   pub enough : length (drop i ls) ≤ turns
-  pub judged : Judged (entries_of (cap_of old) (within (cap_of old) levels) indent old.used (drop first ls)) (map_lines (cap_of old) (within (cap_of old) levels) indent turns got now.used (drop i ls)) exact got
+  pub judged : Judged (whole ls first indent levels old) (map_lines (cap_of old) (within (cap_of old) levels) indent turns got now.used (drop i ls)) exact got
   pub appends : Appends old now (encode got)
   pub on : first ≤ i
   pub within' : i ≤ length ls
@@ -80,7 +84,7 @@ module _ {ls : List Line} {first indent levels : ℕ} {exact : Bool} {old out : 
   inside = within cap levels
 
   abbrev answer : Read Entries
-  answer = entries_of cap inside indent old.used (drop first ls)
+  answer = whole ls first indent levels old
 
   pub out-long : cap_of out ≡ cap
   out-long = len_appended v.appends
@@ -165,7 +169,7 @@ module _ {ls : List Line} {first indent levels : ℕ} {exact : Bool} {old out : 
             record {
               got = v.got;
               told = refused 18 n 0;
-              judged = judged-as on-turn (rw (and_right exact (has_key w.key v.got) (sym found-is ∙ t), m));
+              judged = judged-as on-turn (rw ((and_parts exact (has_key w.key v.got) (sym found-is ∙ t)).1, m));
               agrees = record { is = refl; keeps = keeps_appended new_is };
             }
 

@@ -1,6 +1,6 @@
 -- What the small readers of blocks come to, by the places of the code. Assumes nothing.
 use Rattle.std.proofs.Common.{◌≡◌, refl, sym, ap, ◌∙◌, ℕ, suc, ◌+◌, ◌≤◌, ◌<◌, arith, List, [], ◌∷◌, Bool, true, false, length, drop, eq-eqb, ne_eqb, le-leb}
-use Rattle.std.proofs.Math.Option.{Option, none, some}
+use Rattle.std.proofs.Math.Option.{Option, none, some, some-injective}
 use Rattle.std.proofs.lemmas.Bool.{lt-leb}
 use Rattle.refusal.specs.Base.{Answer, ◌>>=◌, ◌>>◌, ensure, given, maybe, bytes, empty}
 use Rattle.refusal.proofs.Tools.{chosen, present}
@@ -10,6 +10,7 @@ use Rattle.utf8.specs.Part.{part}
 use Rattle.utf8.specs.White.{leading, trim_start}
 use Rattle.utf8.proofs.Laws.{part-drop, start-part, start-le}
 use Rattle.item.proofs.Same.{same_length}
+use Rattle.item.proofs.Exact.{none≢}
 use Rattle.item.specs.Tree.{Yaml, null}
 use Rattle.item.specs.Encode.{encode}
 use Rattle.item.proofs.Size.{encode-size}
@@ -38,18 +39,12 @@ use Rattle.block.specs.Contract.{opening_of, behind_of, key_here, dash_here, Wro
 
 -- ---- where a key ends
 
-none≢some : {X : Type 0} (k : ℕ) → none ≡ some k → X
-none≢some k e = absurd (let z : ◌≡◌ {A = ℕ} 0 1 = cc in omega arith)
-
-some_inj : (a b : ℕ) → some a ≡ some b → a ≡ b
-some_inj a b e = cc
-
 key-from : (q d at : ℕ) (t : List ℕ) (k : ℕ) → key_end_from q d at t ≡ some k → k < at + length t
 unfolding key_end_from
-key-from q d at [] k e = none≢some k e
+key-from q d at [] k e = none≢ k e
 key-from q d at (b ∷ t) k e =
     chosen (qualifies q d (b ∷ t)) (some at) (key_end_from (quote_after q b) (depth_after q d b) (suc at) t) e
-    (λ x p. omega (arith, some_inj at k p))
+    (λ x p. omega (arith, some-injective at k p))
     (λ x p. omega (arith, key-from (quote_after q b) (depth_after q d b) (suc at) t k p))
 
 -- a key ends at a byte of its line

@@ -1,17 +1,17 @@
 -- The definitions at a line, by the numbers that the code reads there. Assumes nothing.
 use Rattle.std.proofs.Common.{◌≡◌, refl, sym, ap, ◌∙◌, ℕ, suc, ◌+◌, ◌-◌, ◌≤◌, ◌<◌, add-one, arith, List, [], ◌∷◌, true, false, eqb, length, take, drop, length-drop, take_all, eqb-true}
-use Rattle.std.proofs.lemmas.Bool.{false≢true}
+use Rattle.std.proofs.lemmas.Bool.{false≢true, and_parts}
 use Rattle.std.proofs.Math.Option.{none, some}
 use Rattle.refusal.specs.Base.{Answer, refused}
 use Rattle.refusal.specs.Told.{told_of}
 use Rattle.refusal.proofs.Tools.{chosen}
 use Rattle.refusal.specs.declared.Refusal.{Refusal}
 use Rattle.refusal.specs.declared.Refusal.TheVariants.{TooDeep}
-use Rattle.utf8.proofs.Ranges.{if-both}
 use Rattle.utf8.specs.Part.{part}
 use Rattle.utf8.proofs.Laws.{part-all, part_length}
 use Rattle.utf8.specs.White.{leading, trim, trim_start}
 use Rattle.item.specs.Tree.{Yaml, null}
+use Rattle.item.proofs.Exact.{none≢}
 use Rattle.item.proofs.Size.{item-length}
 use Rattle.writer.specs.declared.Writer.{Writer}
 use Rattle.writer.proofs.Laws.{appends_more, keeps_appended, keeps_same, keeps_more}
@@ -38,7 +38,7 @@ unfolding key_at
 key-line indent l split e =
     chosen (eqb l.indent indent) (key_end l.text) none e
     (λ q r. (eqb-true l.indent indent q, r))
-    (λ q r. absurd (let z : ◌≡◌ {A = ℕ} 0 1 = cc in omega arith))
+    (λ q r. none≢ split r)
 
 -- the end of a text
 part_tail : (t : List ℕ) (from : ℕ) → part t from (length t) ≡ drop from t
@@ -51,10 +51,7 @@ module _ (ls : List Line) where
   key-there i indent split h k = omega (arith, h, other)
     where
       other : i ≡ length ls → ⊥
-      other e =
-          let q : none ≡ some split = ap (key_here indent) (sym (lines_end ls i e)) ∙ k in
-          let z : ◌≡◌ {A = ℕ} 0 1 = cc in
-          omega arith
+      other e = none≢ split (ap (key_here indent) (sym (lines_end ls i e)) ∙ k)
 
   pub dash-there : (i indent : ℕ) → i ≤ length ls → dash_here indent (drop i ls) ≡ true → i < length ls
   unfolding dash_here
@@ -67,7 +64,7 @@ module _ (ls : List Line) where
   unfolding dash_here
   dash-text i indent h k =
       let l = line_at ls i in
-      dashed-filled l.text (if-both (eqb l.indent indent) (dashed l.text) (ap (dash_here indent) (sym (lines_next ls i h)) ∙ k)).1
+      dashed-filled l.text (and_parts (eqb l.indent indent) (dashed l.text) (ap (dash_here indent) (sym (lines_next ls i h)) ∙ k)).1
 
   module _ (i : ℕ) (h : i < length ls) where
     abbrev l : Line

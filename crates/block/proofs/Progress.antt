@@ -1,8 +1,9 @@
 -- A reading of lines leaves no more of them than it was given, and each turn of a loop takes one: so the loops' counts are never used up. Assumes nothing.
 use Rattle.std.proofs.Common.{◌≡◌, refl, subst, ℕ, zero, suc, ◌≤◌, arith, List, [], ◌∷◌, Bool, not, ltb, leb, length, take, drop}
 use Rattle.std.proofs.Math.Option.{Option, none, some, some-injective, none-ne-some}
+use Rattle.std.proofs.lemmas.Bool.{cond_both}
 use Rattle.refusal.specs.Base.{good, ◌>>=◌, ◌>>◌, given, maybe, bytes, same, empty}
-use Rattle.refusal.proofs.Tools.{good-inj, bound, bound', chosen, present, gave, bind-cong, if-cong, both}
+use Rattle.refusal.proofs.Tools.{good-inj, bound, bound', chosen, present, gave, bind-cong, if-cong}
 use Rattle.utf8.specs.White.{trim, trim_start}
 use Rattle.item.specs.Tree.{Yaml, null, str, Items, end, ◌◂◌, Entries, done, add}
 use Rattle.lines.specs.Lines.{Line}
@@ -19,12 +20,12 @@ use Rattle.block.specs.Block.{Inside, key_at, line_value, child, block_key, valu
 lines_left : (indent : ℕ) (ls : List Line) → length (literal_lines indent ls).1 ≤ length ls
 unfolding literal_lines
 lines_left indent [] = omega arith
-lines_left indent (l ∷ ls) = both (λ (b : List ℕ × List Line). length b.1 ≤ suc (length ls)) (leb indent l.indent) _ _ (omega (arith, lines_left indent ls)) (omega arith)
+lines_left indent (l ∷ ls) = cond_both (leb indent l.indent) _ _ (λ (b : List ℕ × List Line). length b.1 ≤ suc (length ls)) (λ _. omega (arith, lines_left indent ls)) (λ _. omega arith)
 
 under_left : (under : ℕ) (ls : List Line) → length (literal_under under ls).1 ≤ length ls
 unfolding literal_under
 under_left under [] = omega arith
-under_left under (l ∷ ls) = both (λ (b : List ℕ × List Line). length b.1 ≤ suc (length ls)) (ltb under l.indent) _ _ (lines_left l.indent (l ∷ ls)) (omega arith)
+under_left under (l ∷ ls) = cond_both (ltb under l.indent) _ _ (λ (b : List ℕ × List Line). length b.1 ≤ suc (length ls)) (λ _. lines_left l.indent (l ∷ ls)) (λ _. omega arith)
 
 module _ (cap : ℕ) where
   -- a reader that leaves no more lines than it was given
@@ -180,16 +181,8 @@ module _ (cap : ℕ) where
       inlines : (n d : ℕ) (t : List ℕ) (k : ℕ) → Leaves (inline_of cap o n d t k)
       inlines n d t k sum ls g e = bound (given o 20 n 0) _ g e λ i q r. gave o 20 n 0 i q λ q. inline_map-left i (h i q) n d t k sum ls g r
 
+  -- so the laws of the counts hold of what the definition reads inside a collection
   pub within-left : (levels : ℕ) → InsideLeaves (within cap levels)
   unfolding within
   within-left zero = inside_of-left 0 none (λ i p. absurd (none-ne-some i p))
   within-left (suc l) = inside_of-left (suc l) (some (within cap l)) (λ i p. subst InsideLeaves (some-injective _ _ p) (within-left l))
-
-  -- so the reading of a mapping's entries, and of a sequence's items, may be given any larger count
-  pub entries-count : (levels d t sum : ℕ) (ls : List Line) → length ls ≤ t → entries_of cap (within cap levels) d sum ls ≡ map_lines cap (within cap levels) d t done sum ls
-  unfolding entries_of
-  entries-count levels d t sum ls h = map_lines-enough (within cap levels) (within-left levels) d (length ls) t done sum ls (omega arith) h
-
-  pub items-count : (levels d t sum : ℕ) (ls : List Line) → length ls ≤ t → items_of cap (within cap levels) d sum ls ≡ seq_lines cap (within cap levels) d t end sum ls
-  unfolding items_of
-  items-count levels d t sum ls h = seq_lines-enough (within cap levels) (within-left levels) d (length ls) t end sum ls (omega arith) h

@@ -1,5 +1,5 @@
 -- A turn of the walk over the lines of a mapping or a sequence, by what the code reads there. Assumes nothing.
-use Rattle.std.proofs.Common.{◌≡◌, sym, ap, ℕ, ◌+◌, ◌-◌, ◌<◌, ◌≤◌, Bor, List, ◌∷◌, Bool, true, false, ◌&&◌, length, take, drop, Err}
+use Rattle.std.proofs.Common.{◌≡◌, refl, sym, ap, ◌∙◌, ℕ, ◌+◌, ◌-◌, ◌<◌, ◌≤◌, Bor, List, ◌∷◌, Bool, true, false, ◌&&◌, length, take, drop, Err}
 use Rattle.std.proofs.Math.Option.{some}
 use Rattle.refusal.specs.declared.Refusal.{Refusal}
 use Rattle.refusal.specs.declared.Refusal.TheVariants.{KeyTwice}
@@ -9,7 +9,10 @@ use Rattle.item.specs.Encode.{encode}
 use Rattle.item.specs.declared.Found.TheVariants.{At}
 use Rattle.writer.specs.declared.Writer.{Writer}
 use Rattle.writer.specs.Writing.{cap_of, Begins, CutsBack}
-use Rattle.entries.specs.Entries.{Lies}
+use Rattle.entries.specs.Entries.{Lies, key_twice}
+use Rattle.entries.proofs.Parts.{in_part}
+use Rattle.entries.proofs.Walking.{lies-between}
+use Rattle.flow.proofs.Invariants.{lies_in_written}
 use Rattle.lines.specs.Lines.{Line}
 use Rattle.lines.specs.Table.{line_at}
 use Rattle.lines.proofs.Rows.{lines_next, lines_end}
@@ -17,18 +20,29 @@ use Rattle.scalar.specs.Code.{found_of}
 use Rattle.scalar.specs.Contract.{Refuses}
 use Rattle.literal.specs.Literal.{Read}
 use Rattle.literal.specs.Contract.{WroteBlock}
-use Rattle.block.specs.Block.{entry_at, entries_of, item_behind, block_seq, within}
+use Rattle.block.specs.Block.{entry_at, item_behind, block_seq, within}
 use Rattle.block.specs.Contract.{key_here, dash_here, column_at, text_at, WroteEntry, Ran}
 use Rattle.block.proofs.Parts.{found_at, found_nothing}
 use Rattle.block.proofs.Cases.{wrote-block, refuses-as, wrote-entry, agrees-block, block-end, child-end}
 use Rattle.block.proofs.Places.{key-there, key-splits, entry-as, dash-there, dash-text, key-first, block-line-at, sequence-deep-at, block-sequence-at, mapping-deep-at, block-mapping-at, child-deeper-at, child-none-at, entry-done-at, value-nothing-at, value-literal-at, value-stripped-at, value-line-at, item-child-at, item-line-at, item-splits, item-deep-at, item-inline-at}
-use Rattle.writer.proofs.Laws.{len_appended}
-use Rattle.block.proofs.Invariants.{inline-full, inline-later, mapped_end, mapped-start, mapped_all, map-full, map-refused, map-close, listed_start, list_full, Mapped, out-long, map-stops, map-cut, map-twice, map_on, Listed, sout-long, list-stops, list_on}
+use Rattle.writer.proofs.Laws.{len_appended, written_length}
+use Rattle.block.proofs.Invariants.{whole, inline-full, inline-later, mapped_end, mapped-start, mapped_all, map-full, map-refused, map-close, listed_start, list_full, Mapped, out-long, map-stops, map-cut, map-twice, map_on, Listed, sout-long, list-stops, list_on}
 
--- what the search for a key in a part tells of the bytes that the part is of, by what `part` ensures
-pub key_in_part : {all part : Bor (List ℕ)} {start end from to : ℕ} (key : List ℕ) {found : Bool} → part ≡ all → (from ≤ to → to ≤ length all.now → (start ≡ from) × (end ≡ to)) → from ≤ to → to ≤ length all.now
-    → ((es : Entries) → take (end - start) (drop start part.now) ≡ encode es → found ≡ has_key key es) → (es : Entries) → take (to - from) (drop from all.now) ≡ encode es → found ≡ has_key key es
-key_in_part key b places h k s es e = let q = places h k in s es (rw (b, q.0, q.1) e)
+-- ---- what is told of the bytes that are written, by what `written`, `part` and the search ensure
+
+-- the search for a key in a part
+pub key_in_part : (w : Writer) {all part : Bor (List ℕ)} {start end from to i j : ℕ} (key : List ℕ) {found : Bool} → all.now ≡ take w.used w.out.now
+    → part ≡ all → (from ≤ to → to ≤ length all.now → (start ≡ from) × (end ≡ to)) → from ≡ i → to ≡ j → i ≤ j → j ≤ w.used
+    → ((es : Entries) → Lies part.now start end es → found ≡ has_key key es)
+    → (es : Entries) → take (j - i) (drop i (take w.used w.out.now)) ≡ encode es → found ≡ has_key key es
+key_in_part w key b p places m n h k s es e =
+    s es (in_part es p places (rw (b, m, n) (lies-between _ _ _ es h (rw (written_length w refl) k) e)))
+
+-- the search for a key that stands twice
+pub repeats_told : (old mid : Writer) (es : Entries) → Lies mid.out.now old.used mid.used es → {all part : Bor (List ℕ)} {start end from to : ℕ} {found told : Bool}
+    → from ≡ old.used → to ≡ mid.used → all.now ≡ take mid.used mid.out.now → part ≡ all → (from ≤ to → to ≤ length all.now → (start ≡ from) × (end ≡ to))
+    → ((gs : Entries) → Lies part.now start end gs → found ≡ key_twice gs) → found ≡ told → key_twice es ≡ told
+repeats_told old mid es l m n b p places s e = sym (s es (lies_in_written es p places m n b mid.within l)) ∙ e
 
 module _ {ls : List Line} {first indent levels : ℕ} {exact : Bool} {old out : Writer} {i : ℕ} (v : Mapped ls first indent levels exact old out i)
     (split : ℕ) (f : At split ≡ found_of (key_here indent (drop i ls))) where
@@ -48,7 +62,7 @@ module _ {ls : List Line} {first indent levels : ℕ} {exact : Bool} {old out : 
   next = lines_next ls i there
 
   abbrev answer : Read Entries
-  answer = entries_of (cap_of old) (within (cap_of old) levels) indent old.used (drop first ls)
+  answer = whole ls first indent levels old
 
   -- the entry as the definition has it, and as the code reads it
   abbrev defined : Read (List ℕ × Yaml)

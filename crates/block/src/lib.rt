@@ -1,9 +1,11 @@
 // Blocks: the value that lines are, written as it is read. `levels` more collections may be opened. What a reader wrote before a refusal is
 // kept. The lines and the writer are lent to each reader one by one: each clause names them apart, so a struct of both would only stand in
-// front of each name. An indentation and the levels go side by side too: what one reader hands on, the next changes by one of them.
+// front of each name. An indentation and the levels go side by side too: what one reader hands on, the next changes by one of them. So do
+// the lines and the place of the first that is left: a struct of both would be made anew for each call, since a reader answers a place and
+// the next goes on there, and half of the readers ask for a line at that place, half of them not.
 #![tactic(auto)]
 
-ghost use Rattle.std.specs.Prelude.{◌≡◌, ◌+◌, ◌-◌, ◌≤◌, ◌<◌, suc, length, drop, MatchResult};
+ghost use Rattle.std.specs.Prelude.{◌≡◌, ◌+◌, ◌≤◌, ◌<◌, suc, length, drop};
 ghost use Rattle.std.proofs.Math.Option.{some};
 ghost use Rattle.item.specs.Tree as items;
 ghost use Rattle.writer.specs.Writing.{cap_of};
@@ -19,9 +21,10 @@ ghost use Rattle.block.specs.Contract.{opening_of, behind_of, key_here, dash_her
 ghost use Rattle.block.specs.Contract.{ReadsEntries, ReadsOnce};
 
 use entries::{has_key, repeats};
+use flow::{flow, levels_inside};
 use item::{Found, HEADER, Kind};
 use lines::{Lines, dashed};
-use literal::literal;
+use literal::{Chomping, literal};
 use refusal::Refusal;
 use scalar::{Role, key_end};
 use utf8::{trim_start, trimmed};
@@ -35,7 +38,8 @@ pub struct EntryRead {
 }
 
 // Where an entry begins: its line, its place in that line's text, and how far behind that its colon stands. That they lie in the lines is
-// said by those who take it, since the lines go beside it.
+// said by those who take it, since the lines go beside it: in a struct, functions that call each other would have to lend them anew (`&*lines`)
+// to make one and to hand them on, and each clause would have `at.entry.lines.now` for `lines.now`.
 #[derive(Clone, Copy)]
 struct EntryStart {
     line: usize,
@@ -113,17 +117,15 @@ fn line_value(
     number: u32,
     writer: &mut Writer<'_>,
 ) -> Result<usize, Refusal>
-    requires { length s.now ≤ 65535 }
     ensures { ReadsPart (line_value (cap_of writer.old) levels number writer.old.used s.now) i writer.old writer.new result }
 {
-    flow::flow(s, levels, Role::AsValue, number, writer)?;
+    flow(s, levels, Role::AsValue, number, writer)?;
     Ok(i)
 }
 
 // The key before a colon.
 #[tactic(auto, using(crate::proofs::Parts::block_keys))]
 fn block_key(s: &[u8], levels: usize, number: u32, writer: &mut Writer<'_>) -> Result<(), Refusal>
-    requires { length s.now ≤ 65535 }
     ensures { AgreesKey (block_key (cap_of writer.old) levels number writer.old.used (trim s.now)) writer.old writer.new result }
 {
     let key = trimmed(s);
@@ -133,19 +135,12 @@ fn block_key(s: &[u8], levels: usize, number: u32, writer: &mut Writer<'_>) -> R
     if starts_complex(key) {
         return Err(Refusal::ComplexKey { line: number });
     }
-    let named = flow::flow(key, levels, Role::AsKey, number, writer)?;
+    let named = flow(key, levels, Role::AsKey, number, writer)?;
     if named {
         Ok(())
     } else {
         Err(Refusal::KeyNotScalar { line: number })
     }
-}
-
-// How many more collections may be opened inside one that line `line` opens.
-fn levels_inside(levels: usize, line: u32) -> Result<usize, Refusal>
-    ensures { MatchResult result (λ inside. (levels ≡ 0 → ⊥) × (inside ≡ levels - 1)) (λ e. (levels ≡ 0) × (e ≡ Refusal.TooDeep line)) }
-{
-    levels.checked_sub(1).ok_or(Refusal::TooDeep { line })
 }
 
 // A value on a deeper line than `indent`; without one it is null.
@@ -193,8 +188,8 @@ fn entry_value(
     let indent = lines.indent(at.line) + at.from;
     match behind_colon(behind) {
         Behind::Nothing => child(lines, at.line + 1, indent, levels, writer),
-        Behind::Literal => literal(lines, at.line + 1, indent, false, writer),
-        Behind::Stripped => literal(lines, at.line + 1, indent, true, writer),
+        Behind::Literal => literal(lines, at.line + 1, indent, Chomping::Clip, writer),
+        Behind::Stripped => literal(lines, at.line + 1, indent, Chomping::Strip, writer),
         Behind::Value => line_value(behind, at.line + 1, levels, lines.number(at.line), writer),
     }
 }
@@ -231,8 +226,7 @@ fn key_at(lines: &Lines<'_>, i: usize, indent: usize) -> Found
     if i == lines.len() {
         return Found::Nothing;
     }
-    let is_elsewhere = lines.indent(i) != indent;
-    if is_elsewhere {
+    if lines.indent(i) != indent {
         return Found::Nothing;
     }
     key_end(lines.text(i))

@@ -1,5 +1,7 @@
 -- Names in the bytes of a name list: what a header says of one, the check of the list, and the search. Assumes nothing.
 use Rattle.std.proofs.Common.{◌≡◌, refl, sym, ap, ◌∙◌, ℕ, zero, suc, ◌-◌, ◌≤◌, ◌<◌, Bool, true, false, ◌&&◌, ◌||◌, eqb, leb, List, [], ◌∷◌, length, take, drop, Ok, Err, append-nil, arith, drop_of_length-le, leb-true, length-drop, take-append-drop}
+use Rattle.std.proofs.lemmas.Bool.{and_parts}
+use Rattle.std.proofs.lemmas.List.{take_rest}
 use Rattle.std.proofs.Math.Option.{Option, none, some, some-injective}
 use Rattle.refusal.specs.Base.{maybe, same, one_of}
 use Rattle.refusal.proofs.Tools.{chosen}
@@ -9,10 +11,9 @@ use Rattle.item.specs.Places.{header_at}
 use Rattle.item.specs.declared.Item.{Item}
 use Rattle.item.specs.declared.Broken.{Broken}
 use Rattle.item.proofs.Headers.{no_header as no-item-there}
-use Rattle.item.proofs.Exact.{got, none≢, and_left, nothing-inv}
+use Rattle.item.proofs.Exact.{got, none≢, nothing-inv}
 use Rattle.utf8.specs.Utf8.{is_utf8}
 use Rattle.value.proofs.Contents.{no_header}
-use Rattle.value.proofs.Invariants.{whole-rest}
 use Rattle.record.specs.Read.{field_of, as_text, content, in_item, many, all}
 use Rattle.record.specs.Contract.{is_some, are_texts, ItemAt}
 use Rattle.record.proofs.Views.{no_field, text-read, no-text}
@@ -87,8 +88,8 @@ listed b ns e = got (in_item 4 (λ s. filled s) b) _ ns e λ x p q. got (content
     let c : take size (drop 6 b) ≡ y.0 = cc in
     let r : drop size (drop 6 b) ≡ [] = cc in
     record {
-      long = leb-true _ _ (and_left (leb 6 (length b)) _ k);
-      is = ap (λ (s : List ℕ). filled s) (whole-rest b 6 ∙ sym (take-append-drop size (drop 6 b)) ∙ rw r (append-nil _) ∙ c) ∙ f ∙ ap some (let w : l ≡ ns = cc in w);
+      long = leb-true _ _ (and_parts (leb 6 (length b)) _ k).0;
+      is = ap (λ (s : List ℕ). filled s) (take_rest b 6 ∙ sym (take-append-drop size (drop 6 b)) ∙ rw r (append-nil _) ∙ c) ∙ f ∙ ap some (let w : l ≡ ns = cc in w);
     })
     (λ _ i. none≢ h i))
     (λ _ j. none≢ y j)

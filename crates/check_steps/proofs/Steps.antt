@@ -50,9 +50,6 @@ pub record Left (s : List ℕ) (to at : ℕ) (ns : List (List ℕ)) (lines : Lis
   pub lie : StepsLie s at to rest
   pub same_answer : check_from ns 1 lines xs ≡ check_from ns (suc i) (drop i lines) rest
 
-pub left-start : {s : List ℕ} {to at : ℕ} {ns : List (List ℕ)} {lines : List ℕ} (xs : List Step) → StepsLie s at to xs → Left s to at ns lines xs 0
-left-start xs h = record { rest = xs; lie = h; same_answer = refl }
-
 module _ {s : List ℕ} {to at : ℕ} {ns : List (List ℕ)} {lines : List ℕ} {xs : List Step} {i : ℕ} (l : Left s to at ns lines xs i) where
   pub left_end : to ≤ at → good tt ≡ check_from ns 1 lines xs
   unfolding check_from

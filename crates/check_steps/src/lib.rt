@@ -105,6 +105,7 @@ fn check_inner(steps: Part<'_>, outer: Site<'_>) -> Result<(), Refusal>
             return Err(Refusal::Malformed);
         };
         let number = before as u32 + 1;
+        // Written out, since this turn of the walk tells that it is one; a walk over nodes would be an iterator of its own.
         let node = Node {
             bytes: steps.bytes,
             item,
@@ -146,8 +147,9 @@ fn check_repeat(value: Node<'_>, site: Site<'_>) -> Result<(), Refusal>
     check_inner(items, site)
 }
 
-// The step whose parts begin at `from`. Its key is the third of them, its value stands behind that.
-#[tactic(auto, using(record::proofs::StepPlaces::nth_inside))]
+// The step whose parts begin at `from`. Its key is the third of them, its value stands behind that. The bytes and the place stand apart, as
+// `nth_item` takes them: a node of the step would be made for this call alone.
+#[tactic(auto, using(entries::proofs::Counting::nth_inside))]
 fn check_step(s: Encoded<'_>, from: usize, site: Site<'_>) -> Result<(), Refusal>
     ensures { (ns : List (List ℕ)) → filled site.entry.names.now ≡ some ns → (at : ℕ) (x : Step) → from ≡ at + 6 → Ranged x.value
         → Stands s.entry.bytes.now at (step_item x) → told_of result ≡ check_step ns site.entry.line site.entry.number x }

@@ -22,6 +22,7 @@ use share::ShareAnswer;
 use tree::TreeAnswer;
 
 // How a job ended: the first number of an answer.
+#[derive(Clone, Copy)]
 enum State {
     Accepted = 0,
     Refused = 1,
@@ -36,6 +37,19 @@ pub trait Answer {
     fn numbers(self) -> [u64; 5]
         ensures told { result ≡ as_told self }
         ensures first { first_of result < 2 ^ 32 };
+}
+
+// What a job gives, in up to four numbers.
+fn accepted(a: usize, b: usize, c: usize, d: usize) -> [u64; 5]
+    ensures { result ≡ 0 ∷ a ∷ b ∷ c ∷ d ∷ [] }
+{
+    [
+        State::Accepted as u64,
+        a as u64,
+        b as u64,
+        c as u64,
+        d as u64,
+    ]
 }
 
 // A refusal in five numbers, of any job.
@@ -57,7 +71,7 @@ impl Answer for TreeAnswer {
 
     fn numbers(self) -> [u64; 5] {
         match self {
-            TreeAnswer::Read { bytes } => [State::Accepted as u64, bytes as u64, 0, 0, 0],
+            TreeAnswer::Read { bytes } => accepted(bytes, 0, 0, 0),
             TreeAnswer::Refused(e) => refused(e),
         }
     }
@@ -73,13 +87,7 @@ impl Answer for ScenarioAnswer {
                 record_bytes,
                 line_bytes,
                 steps,
-            } => [
-                State::Accepted as u64,
-                tree_bytes as u64,
-                record_bytes as u64,
-                line_bytes as u64,
-                steps as u64,
-            ],
+            } => accepted(tree_bytes, record_bytes, line_bytes, steps),
             ScenarioAnswer::Refused(e) => refused(e),
         }
     }
@@ -90,7 +98,7 @@ impl Answer for RecordAnswer {
 
     fn numbers(self) -> [u64; 5] {
         match self {
-            RecordAnswer::Good { steps } => [State::Accepted as u64, steps as u64, 0, 0, 0],
+            RecordAnswer::Good { steps } => accepted(steps, 0, 0, 0),
             RecordAnswer::Refused(e) => refused(e),
         }
     }
@@ -101,7 +109,7 @@ impl Answer for StepsAnswer {
 
     fn numbers(self) -> [u64; 5] {
         match self {
-            StepsAnswer::Good { steps } => [State::Accepted as u64, steps as u64, 0, 0, 0],
+            StepsAnswer::Good { steps } => accepted(steps, 0, 0, 0),
             StepsAnswer::Refused(e) => refused(e),
         }
     }
@@ -112,13 +120,7 @@ impl Answer for Lookup {
 
     fn numbers(self) -> [u64; 5] {
         match self {
-            Lookup::Found { start, end } => [
-                State::Accepted as u64,
-                start as u64,
-                end as u64,
-                0,
-                0,
-            ],
+            Lookup::Found { start, end } => accepted(start, end, 0, 0),
             Lookup::Nothing => [State::Nothing as u64, 0, 0, 0, 0],
             Lookup::Refused(e) => refused(e),
         }
@@ -130,7 +132,7 @@ impl Answer for TimesAnswer {
 
     fn numbers(self) -> [u64; 5] {
         match self {
-            TimesAnswer::Times(n) => [State::Accepted as u64, u64::from(n), 0, 0, 0],
+            TimesAnswer::Times(n) => accepted(n as usize, 0, 0, 0),
             TimesAnswer::Refused(e) => refused(e),
         }
     }
@@ -142,7 +144,7 @@ impl Answer for ShareAnswer {
 
     fn numbers(self) -> [u64; 5] {
         match self {
-            ShareAnswer::Given => [State::Accepted as u64, 0, 0, 0, 0],
+            ShareAnswer::Given => accepted(0, 0, 0, 0),
             ShareAnswer::Refused(e) => refused(e),
         }
     }
@@ -157,13 +159,7 @@ impl Answer for PairAnswer {
                 pairs,
                 lone_hammers,
                 lone_sounds,
-            } => [
-                State::Accepted as u64,
-                pairs as u64,
-                lone_hammers as u64,
-                lone_sounds as u64,
-                0,
-            ],
+            } => accepted(pairs, lone_hammers, lone_sounds, 0),
             PairAnswer::Refused(e) => refused(e),
         }
     }

@@ -139,6 +139,7 @@ pub fn drum_times(record: &[u8], number: usize, answer: &mut [u64]) -> u32
 }
 
 /// What each of several drums on one supply gets in a beat, eight numbers in their order; the answer has no numbers.
+// Eight, as the C header says; the constant in `share` is its own.
 pub fn drum_share(wishes: &[u32], allowed: u32, strokes: &mut [u32; 8], answer: &mut [u64]) -> u32
     ensures result { result ≡ first_of (numbers of_none (shared.share wishes.now allowed)) }
     ensures answer { answer.new ≡ told (numbers of_none (shared.share wishes.now allowed))

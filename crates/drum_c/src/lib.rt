@@ -132,6 +132,7 @@ pub extern "C" fn drum_times(record: &[u8], number: usize, answer: &mut [u64]) -
 }
 
 /// What each of several drums on one supply gets in a beat, eight numbers in their order; the answer has no numbers.
+// Eight, as the C header says; the constant in `share` is its own.
 #[unsafe(no_mangle)]
 pub extern "C" fn drum_share(
     wishes: &[u32],

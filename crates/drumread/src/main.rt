@@ -5,7 +5,7 @@
 
 use console::{Lent, Numbers, PLACES, ROOM, TEXT, read_at_most};
 use item::{Item, Items};
-use record::{Lookup, part};
+use record::{part, steps_of};
 use scenario::{ScenarioAnswer, read_scenario};
 use std::io;
 
@@ -17,18 +17,12 @@ fn key_bytes(record: &[u8], step: Item) -> usize {
     }
 }
 
-// The steps are the eighth field.
 fn print_steps(rt: &impl Print, record: &[u8], lines: &[u32]) -> io::Result<()> {
-    let steps = match record::field(record, 8) {
-        Lookup::Found { start, .. } => item::header_at(record, start),
-        Lookup::Nothing => return println!(rt; "no steps"),
-        Lookup::Refused(e) => return println!(rt; "refused {}", Numbers(e)),
+    let steps = match steps_of(record) {
+        Ok(steps) => steps,
+        Err(e) => return println!(rt; "refused {}", Numbers(e)),
     };
-    let Ok(steps) = steps else {
-        return Ok(());
-    };
-    let steps = Items::within(record, steps.from, steps.to);
-    for (i, (step, line)) in steps.zip(lines).enumerate() {
+    for (i, (step, line)) in steps.items.walk::<Item>().zip(lines).enumerate() {
         let Ok(step) = step else {
             return Ok(());
         };
@@ -45,6 +39,8 @@ fn print_read(rt: &impl Print, record: &[u8], tree_bytes: usize, lines: &[u32]) 
 fn main(rt: HostRuntime) -> io::Result<()> {
     let text = read_at_most(rt.alloc(), rt.reader(), TEXT)?;
     let mut lent = Lent::new(rt.alloc(), ROOM, PLACES)?;
+    // Handed on one by one, here and in the other programs: a method of `Lent` would state again what `read_scenario` promises of each, and
+    // have drumshow stand on the reader.
     match read_scenario(&text, &mut lent.work, &mut lent.record, &mut lent.lines) {
         ScenarioAnswer::Read {
             tree_bytes,

@@ -1,10 +1,10 @@
 -- Bits that were put into words stay there. Assumes nothing.
 use Rattle.std.proofs.Common.{◌≡◌, refl, sym, ap, ◌∙◌, subst, nat_eq, slice_set, slice_index_or, ℕ, ◌+◌, ◌*◌, ◌/◌, ◌%◌, ◌≤◌, min, max, arith, List, Bool, true, false, bit_and, bit_or, eqb, length, get_or, set, length-set, get_or-set_same, get_or-set_other, eq-eqb, eqb-true}
 use Rattle.std.proofs.lemmas.Bool.{false≢true, eqb-false}
-use Rattle.std.proofs.lemmas.Nat.{or_comm}
+use Rattle.std.proofs.lemmas.Nat.{and_or_self}
 use Rattle.std.proofs.Math.Nat.{min-le_left, min-le_right, le-max_left, min-eq_right, max-le}
 use Rattle.std.proofs.Math.Arith.{bin_ind}
-use lib.Bits.{and_step, or_step, and_zero_r, and_self}
+use lib.Bits.{and_step, or_step, and_zero_r}
 use Rattle.entries.specs.Contract.{bits_of, Has, Marked}
 
 pub and_kept : (m x y : ℕ) → bit_and x m ≡ m → bit_and (bit_or x y) m ≡ m
@@ -24,9 +24,6 @@ and_kept = bin_ind (λ (n : ℕ). (x y : ℕ) → bit_and x n ≡ n → bit_and 
         let v : min (bit_or x y % 2) (m % 2) ≡ m % 2 = ap (λ (z : ℕ). min z (m % 2)) rest ∙ min-eq_right below in
         omega (arith, and_step (bit_or x y) m, u, v)
 
-pub and-put : (x m : ℕ) → bit_and (bit_or x m) m ≡ m
-and-put x m = ap (λ (z : ℕ). bit_and z m) (or_comm x m) ∙ and_kept m m x (and_self m)
-
 module _ (l : List ℕ) (h : ℕ) (long : length l ≡ 2048) where
   abbrev word : ℕ
   word = get_or l (h % 2048) 0
@@ -41,7 +38,7 @@ module _ (l : List ℕ) (h : ℕ) (long : length l ≡ 2048) where
   unfolding Has
   marked = record {
     size = length-set l (h % 2048) (bit_or word (bits_of h));
-    here = ap (λ (w : ℕ). bit_and w (bits_of h)) put ∙ and-put word (bits_of h);
+    here = ap (λ (w : ℕ). bit_and w (bits_of h)) put ∙ and_or_self (bits_of h) word;
     kept = λ g e. at g e (eqb (g % 2048) (h % 2048)) refl;
     told = λ e n. false≢true (sym n ∙ eq-eqb _ _ e);
   }

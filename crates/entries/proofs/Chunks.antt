@@ -1,6 +1,6 @@
 -- Entries in chunks: the keys of a chunk, in their order, and the entries behind it. Assumes nothing.
 use Rattle.std.proofs.Common.{◌≡◌, refl, sym, ap, ◌∙◌, subst, ⊎_elim, ℕ, ◌+◌, ◌-◌, ◌≤◌, ◌<◌, ◌^◌, arith, List, Bool, true, false, ◌||◌, take, drop}
-use Rattle.std.proofs.lemmas.Bool.{false≢true}
+use Rattle.std.proofs.lemmas.Bool.{false≢true, false_from_ne_true, or_cases, or_left, or_right}
 use Rattle.refusal.specs.Base.{same}
 use Rattle.item.specs.Tree.{Yaml, Entries, done, pair, has_key}
 use Rattle.item.proofs.Same.{same_refl, same-eq}
@@ -9,7 +9,6 @@ use Rattle.entries.specs.Entries.{Lies, key_twice}
 use Rattle.entries.specs.declared.sorted.KeyPlace.{KeyPlace}
 use Rattle.entries.specs.Contract.{key_of, key_in, Held, Gap, Inserted, LeftOver}
 use Rattle.entries.proofs.Walking.{Turn, no_more}
-use Rattle.entries.proofs.Twice.{no, either, or_left, or_right}
 use Rattle.entries.proofs.Runs.{each_on, held-here, held_on, not-held}
 
 -- ---- entries that share a key with others
@@ -30,13 +29,13 @@ module _ (k : List ℕ) (v : Yaml) (b : Entries) where
   meets-there (pair j u a) h = ⊎_elim
       (λ t. or_left (same k j || has_key j b) _ (or_left (same k j) (has_key j b) (rw (same-eq j k t) (same_refl k))))
       (λ f. or_right (same k j || has_key j b) _ (meets-there a f))
-      (either (same j k) (has_key k a) h)
+      (or_cases (same j k) (has_key k a) h)
 
   meets_on : (a : Entries) → (has_key k a ≡ true → ⊥) → meets a (pair k v b) ≡ meets a b
   unfolding has_key
   meets_on done n = refl
   meets_on (pair j u a) n =
-      let e : same k j ≡ false = no _ λ t. n (or_left (same j k) (has_key k a) (rw (same-eq k j t) (same_refl j))) in
+      let e : same k j ≡ false = false_from_ne_true _ λ t. n (or_left (same j k) (has_key k a) (rw (same-eq k j t) (same_refl j))) in
       rw (e, meets_on a (λ h. n (or_right (same j k) (has_key k a) h)))
 
 swap : (a b c : Bool) → a || (b || c) ≡ (b || a) || c
@@ -126,7 +125,7 @@ module _ {s : List ℕ} {run : List KeyPlace} {n to behind at : ℕ} {es : Entri
             ∙ swap (meets w.chunk more) (has_key key more) (key_twice more);
         filling = λ _. refl;
         held = λ k i. ⊎_elim (λ q. subst (Held s new (n + 1)) (e ∙ same-eq key k q) (held-here p g.within s))
-            (λ q. held_on p g.within (w.held k q)) (either (same key k) (has_key k w.chunk) i);
+            (λ q. held_on p g.within (w.held k q)) (or_cases (same key k) (has_key k w.chunk) i);
         kept = each_on p g.within (λ (x : KeyPlace). has_key (key_of s x) (pair key t.entry.v w.chunk) ≡ true)
             (or_left (same key (key_of s place)) _ (rw e (same_refl key)))
             (λ i l. or_right (same key (key_in s run i)) _ (w.kept i l));

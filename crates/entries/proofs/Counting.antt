@@ -48,12 +48,16 @@ nth_lost s at h (suc skip) = go (header_at s at) h
     go (Ok item) e = let z : ◌≡◌ {A = ℕ} 0 1 = cc in absurd (omega arith)
     go (Err broken) e = refl
 
--- a found item has a header in the bytes
-pub nth-fits : (s : List ℕ) (skip at : ℕ) {span : Span} → Some span ≡ nth_item s at skip → span.start + 6 ≤ length s
+-- a found item stands within the bytes
+pub record Within (s : List ℕ) (start end : ℕ) : Type 0 where
+  pub order : start + 6 ≤ end
+  pub fits : end ≤ length s
+
+pub nth_inside : (s : List ℕ) (skip at : ℕ) {span : Span} → Some span ≡ nth_item s at skip → Within s span.start span.end
 unfolding nth_item span_at behind
-nth-fits s zero at e = let i = spanned s at e in omega (arith, i.first, i.order, i.inside)
-nth-fits s (suc skip) at {span} e = go (header_at s at) (λ to. nth-fits s skip to {span = span}) e
+nth_inside s zero at e = let i = spanned s at e in record { order = omega (arith, i.first, i.order); fits = i.inside }
+nth_inside s (suc skip) at {span} e = go (header_at s at) (λ to. nth_inside s skip to {span = span}) e
   where
-    go : (r : Result Item Broken) → ((to : ℕ) → Some span ≡ nth_item s to skip → span.start + 6 ≤ length s) → Some span ≡ behind r (λ to. nth_item s to skip) → span.start + 6 ≤ length s
+    go : (r : Result Item Broken) → ((to : ℕ) → Some span ≡ nth_item s to skip → Within s span.start span.end) → Some span ≡ behind r (λ to. nth_item s to skip) → Within s span.start span.end
     go (Ok item) more e = more item.to e
     go (Err broken) more e = let z : ◌≡◌ {A = ℕ} 0 1 = cc in absurd (omega arith)

@@ -1,11 +1,10 @@
 -- Runs of keys in their order: the search for a key, and a key put in at its index. Assumes nothing.
-use Rattle.std.proofs.lemmas.Bool.{false≢true}
+use Rattle.std.proofs.lemmas.Bool.{false≢true, cases_lt}
 use Rattle.std.proofs.Common.{Ordering, Less, Equal, Greater, ◌≡◌, sym, ap, ◌∙◌, subst, ⊎_elim, ℕ, ◌+◌, ◌-◌, ◌^◌, ◌≤◌, ◌<◌, arith, refl, List, length, take, drop, get_or}
 use Rattle.std.specs.Ordering.{ordering_reverse, ordering_then, nat_cmp, is_eq}
 use Rattle.std.specs.FinMap.{slice_cmp-IsAntisymmetric, nat_cmp-IsAntisymmetric}
 use Rattle.std.specs.Cmp.{IsTotalOrder, nat_cmp_total, on_total, then_total}
 use Rattle.std.specs.Cmp.Lexicographic.{slice_cmp, nat_list_cmp_total}
-use Rattle.refusal.proofs.Tools.{split}
 use Rattle.entries.specs.declared.sorted.KeyPlace.{KeyPlace}
 use Rattle.entries.specs.Contract.{key_cmp, key_of, blank, key_in, Inside, InOrder, Held, Gap, Inserted}
 
@@ -39,7 +38,7 @@ module _ {old new : List KeyPlace} {n index : ℕ} {place : KeyPlace} (p : Inser
   was : (i : ℕ) → i < n + 1 → Was i
   was i h = ⊎_elim (λ l. before l (p.before i l))
       (λ l. ⊎_elim (λ k. let e : i ≡ i - 1 + 1 = omega arith in behind (i - 1) e (omega arith) (omega arith) (ap (λ (j : ℕ). get_or new j blank) e ∙ p.behind (i - 1) (omega arith) (omega arith)))
-      (λ k. let e : i ≡ index = omega arith in here e (rw e p.here)) (split index i)) (split i index)
+      (λ k. let e : i ≡ index = omega arith in here e (rw e p.here)) (cases_lt index i)) (cases_lt i index)
 
   pub each_on : (P : KeyPlace → Type 0) → P place → ((i : ℕ) → i < n → P (get_or old i blank)) → (i : ℕ) → i < n + 1 → P (get_or new i blank)
   each_on P w o i h = go (was i h)
@@ -56,7 +55,7 @@ module _ {old new : List KeyPlace} {n index : ℕ} {place : KeyPlace} (p : Inser
   held_on {s} h = ⊎_elim
       (λ l. record { index = h.index; below = omega (arith, h.below); is = ap (key_of s) (p.before h.index l) ∙ h.is })
       (λ l. record { index = h.index + 1; below = omega (arith, h.below); is = ap (key_of s) (p.behind h.index l h.below) ∙ h.is })
-      (split h.index index)
+      (cases_lt h.index index)
 
   pub run_on : {s : List ℕ} → InOrder s old n → Inside s place → Gap s old n (key_of s place) index → n < 2 ^ 11 → InOrder s new (n + 1)
   run_on {s} r h g m = record {
@@ -80,7 +79,7 @@ module _ {old new : List KeyPlace} {n index : ℕ} {place : KeyPlace} (p : Inser
 -- a key that has a place is none of them
 pub not-held : {s : List ℕ} {run : List KeyPlace} {n : ℕ} {key : List ℕ} {index : ℕ} → Gap s run n key index → Held s run n key → ⊥
 not-held {key = key} {index = index} g h = ⊎_elim (λ l. below_self key (subst (λ (k : List ℕ). key_cmp k key ≡ Less) h.is (g.before h.index l)))
-    (λ l. below_self key (subst (λ (k : List ℕ). key_cmp key k ≡ Less) h.is (g.behind h.index l h.below))) (split h.index index)
+    (λ l. below_self key (subst (λ (k : List ℕ). key_cmp key k ≡ Less) h.is (g.behind h.index l h.below))) (cases_lt h.index index)
 
 -- ---- the search for a key
 
@@ -111,7 +110,7 @@ module _ {s : List ℕ} {run : List KeyPlace} {n : ℕ} {key : List ℕ} {low hi
     between-right l = record { order = omega arith; within = b.within; before = go; behind = b.behind }
       where
         go : (j : ℕ) → j < i + 1 → key_cmp (key_in s run j) key ≡ Less
-        go j h = ⊎_elim (λ k. key-order.trans (key_in s run j) (key_in s run i) key (r.rising j i k (omega (arith, b.within))) l) (λ k. let e : j ≡ i = omega arith in rw e l) (split j i)
+        go j h = ⊎_elim (λ k. key-order.trans (key_in s run j) (key_in s run i) key (r.rising j i k (omega (arith, b.within))) l) (λ k. let e : j ≡ i = omega arith in rw e l) (cases_lt j i)
 
     pub between_left : key_cmp (key_in s run i) key ≡ Greater → Between s run n key low i
     between_left g = record { order = after; within = omega (arith, b.within); before = b.before; behind = go }
@@ -120,4 +119,4 @@ module _ {s : List ℕ} {run : List KeyPlace} {n : ℕ} {key : List ℕ} {low hi
         l = above _ key g
 
         go : (j : ℕ) → i ≤ j → j < n → key_cmp key (key_in s run j) ≡ Less
-        go j h m = ⊎_elim (λ k. key-order.trans key (key_in s run i) (key_in s run j) l (r.rising i j k m)) (λ k. let e : j ≡ i = omega arith in rw e l) (split i j)
+        go j h m = ⊎_elim (λ k. key-order.trans key (key_in s run i) (key_in s run j) l (r.rising i j k m)) (λ k. let e : j ≡ i = omega arith in rw e l) (cases_lt i j)

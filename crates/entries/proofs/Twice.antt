@@ -1,12 +1,11 @@
 -- Keys that stand twice, of one class and of all; a walk along entries that looks for them. Assumes nothing.
 use Rattle.std.proofs.Common.{◌≡◌, refl, sym, ap, ◌∙◌, subst, ◌⊎◌, inl, inr, ⊎_elim, ℕ, ◌+◌, ◌*◌, ◌/◌, ◌%◌, ◌≤◌, ◌<◌, ◌^◌, add-one, arith, List, ◌++◌, append_assoc, append-nil, Bool, true, false, ◌&&◌, ◌||◌, bit_and, length, drop, get_or, length-append, drop_of_length-le, drop_at, drop-drop, drop-cons, eq-eqb, eqb-true, eqb}
-use Rattle.std.proofs.lemmas.Bool.{false≢true, eqb-false}
+use Rattle.std.proofs.lemmas.Bool.{false≢true, eqb-false, false_from_ne_true, or_cases, or_left, or_right, and_from, or_parts, and_parts, both_ways}
 use Rattle.std.proofs.lemmas.Nat.{and_le_r}
 use Rattle.refusal.specs.Base.{same}
-use Rattle.refusal.proofs.Tools.{neither}
 use Rattle.item.specs.Tree.{Yaml, Entries, done, pair, add, has_key}
 use Rattle.item.specs.Encode.{item, encode}
-use Rattle.item.proofs.Exact.{and_left, and_right}
+use Rattle.item.proofs.Joined.{◌⋈◌, has-add, add-more, none_more}
 use Rattle.item.proofs.Same.{same_refl, same-eq}
 use Rattle.entries.specs.declared.Pair.{Pair}
 use Rattle.entries.specs.Entries.{Stands, Lies, key_twice}
@@ -25,55 +24,16 @@ module _ (key : List ℕ) (h i : ℕ) where
   unfolding hash_from
   hash_end n = rw (drop_of_length-le key {i = i} n)
 
--- ---- tests
-
-pub no : (b : Bool) → (b ≡ true → ⊥) → b ≡ false
-no true h = absurd (h refl)
-no false h = refl
-
-pub either : (a b : Bool) → a || b ≡ true → (a ≡ true) ⊎ (b ≡ true)
-either true b e = inl refl
-either false b e = inr e
-
-pub or_left : (a b : Bool) → a ≡ true → a || b ≡ true
-or_left a b e = rw e
-
-pub or_right : (a b : Bool) → b ≡ true → a || b ≡ true
-or_right true b e = refl
-or_right false b e = e
-
-and_both : (a b : Bool) → a ≡ true → b ≡ true → a && b ≡ true
-and_both a b e f = rw (e, f)
-
-clash : {b : Bool} → b ≡ true → b ≡ false → ⊥
-clash e f = false≢true (sym f ∙ e)
-
 -- ---- entries, and one more
 
-has-add : (es : Entries) (k j : List ℕ) (v : Yaml) → has_key j (add es k v) ≡ true → (k ≡ j) ⊎ (has_key j es ≡ true)
-unfolding has_key add
-has-add done k j v e = ⊎_elim (λ t. inl (same-eq k j t)) (λ f. absurd (false≢true f)) (either (same k j) false e)
-has-add (pair i u es) k j v e =
-    ⊎_elim (λ t. inr (or_left (same i j) (has_key j es) t))
-    (λ t. ⊎_elim inl (λ f. inr (or_right (same i j) (has_key j es) f)) (has-add es k j v t)) (either (same i j) (has_key j (add es k v)) e)
+-- a key of those is one of them, or the one more
+has-one : (es : Entries) (k j : List ℕ) (v : Yaml) → has_key j (add es k v) ≡ true → (k ≡ j) ⊎ (has_key j es ≡ true)
+has-one es k j v e = ⊎_elim inr (λ t. inl (same-eq k j t)) (or_cases (has_key j es) (same k j) (sym (has-add es k j v) ∙ e))
 
-abbrev pub join : Entries → Entries → Entries
-join done b = b
-join (pair k v a) b = pair k v (join a b)
-
-join-done : (a : Entries) → join a done ≡ a
-join-done done = refl
-join-done (pair k v a) = ap (pair k v) (join-done a)
-
-join-add : (a : Entries) (k : List ℕ) (v : Yaml) (b : Entries) → join (add a k v) b ≡ join a (pair k v b)
-unfolding add
-join-add done k v b = refl
-join-add (pair j u a) k v b = ap (pair j u) (join-add a k v b)
-
-has_join : (a : Entries) (k : List ℕ) (v : Yaml) (b : Entries) → has_key k (join a (pair k v b)) ≡ true
-unfolding has_key same
+has_join : (a : Entries) (k : List ℕ) (v : Yaml) (b : Entries) → has_key k (a ⋈ pair k v b) ≡ true
+unfolding has_key same ◌⋈◌
 has_join done k v b = or_left (same k k) (has_key k b) (same_refl k)
-has_join (pair j u a) k v b = or_right (same j k) (has_key k (join a (pair k v b))) (has_join a k v b)
+has_join (pair j u a) k v b = or_right (same j k) (has_key k (a ⋈ pair k v b)) (has_join a k v b)
 
 pub add-bytes : (es : Entries) (k : List ℕ) (v : Yaml) → encode (add es k v) ≡ encode es ++ (item 3 k ++ encode v)
 unfolding encode add
@@ -88,30 +48,30 @@ add-bytes (pair j u es) k v =
 module _ (p : List ℕ → Bool) where
   twice-add : (es : Entries) (k : List ℕ) (v : Yaml) → twice_in p es ≡ false → (p k ≡ true → has_key k es ≡ true → ⊥) → twice_in p (add es k v) ≡ false
   unfolding twice_in add has_key
-  twice-add done k v e n = no _ λ t. ⊎_elim (λ a. false≢true (and_right (p k) false a)) false≢true (either (p k && false) false t)
-  twice-add (pair j u es) k v e n = no _ λ t. ⊎_elim
+  twice-add done k v e n = false_from_ne_true _ λ t. ⊎_elim (λ a. false≢true (and_parts (p k) false a).1) false≢true (or_cases (p k && false) false t)
+  twice-add (pair j u es) k v e n = false_from_ne_true _ λ t. ⊎_elim
       (λ a. ⊎_elim
-      (λ q. n (subst (λ (l : List ℕ). p l ≡ true) (sym q) (and_left (p j) _ a)) (or_left (same j k) (has_key k es) (subst (λ (l : List ℕ). same j l ≡ true) (sym q) (same_refl j))))
-      (λ f. clash (and_both (p j) (has_key j es) (and_left (p j) _ a) f) (neither (p j && has_key j es) (twice_in p es) e).0)
-      (has-add es k j v (and_right (p j) _ a)))
-      (λ b. clash b (twice-add es k v (neither (p j && has_key j es) (twice_in p es) e).1 (λ pk f. n pk (or_right (same j k) (has_key k es) f))))
-      (either (p j && has_key j (add es k v)) (twice_in p (add es k v)) t)
+      (λ q. n (subst (λ (l : List ℕ). p l ≡ true) (sym q) (and_parts (p j) _ a).0) (or_left (same j k) (has_key k es) (subst (λ (l : List ℕ). same j l ≡ true) (sym q) (same_refl j))))
+      (λ f. both_ways _ (or_parts (p j && has_key j es) (twice_in p es) e).0 (and_from (p j) (has_key j es) (and_parts (p j) _ a).0 f))
+      (has-one es k j v (and_parts (p j) _ a).1))
+      (λ b. both_ways _ (twice-add es k v (or_parts (p j && has_key j es) (twice_in p es) e).1 (λ pk f. n pk (or_right (same j k) (has_key k es) f))) b)
+      (or_cases (p j && has_key j (add es k v)) (twice_in p (add es k v)) t)
 
-  twice-join : (a : Entries) (k : List ℕ) (v : Yaml) (b : Entries) → p k ≡ true → has_key k a ≡ true → twice_in p (join a (pair k v b)) ≡ true
-  unfolding twice_in has_key
+  twice-join : (a : Entries) (k : List ℕ) (v : Yaml) (b : Entries) → p k ≡ true → has_key k a ≡ true → twice_in p (a ⋈ pair k v b) ≡ true
+  unfolding twice_in has_key ◌⋈◌
   twice-join done k v b e h = absurd (false≢true h)
   twice-join (pair j u a) k v b e h = ⊎_elim
       (λ t. let q : j ≡ k = same-eq j k t in
-      or_left (p j && has_key j (join a (pair k v b))) _ (and_both (p j) _ (subst (λ (l : List ℕ). p l ≡ true) (sym q) e)
-      (subst (λ (l : List ℕ). has_key l (join a (pair k v b)) ≡ true) (sym q) (has_join a k v b))))
-      (λ f. or_right (p j && has_key j (join a (pair k v b))) _ (twice-join a k v b e f))
-      (either (same j k) (has_key k a) h)
+      or_left (p j && has_key j (a ⋈ pair k v b)) _ (and_from (p j) _ (subst (λ (l : List ℕ). p l ≡ true) (sym q) e)
+      (subst (λ (l : List ℕ). has_key l (a ⋈ pair k v b) ≡ true) (sym q) (has_join a k v b))))
+      (λ f. or_right (p j && has_key j (a ⋈ pair k v b)) _ (twice-join a k v b e f))
+      (or_cases (same j k) (has_key k a) h)
 
   pub twice_whole : (es : Entries) → twice_in p es ≡ true → key_twice es ≡ true
   unfolding twice_in key_twice
   twice_whole done e = e
-  twice_whole (pair k v es) e = ⊎_elim (λ a. or_left (has_key k es) (key_twice es) (and_right (p k) (has_key k es) a))
-      (λ b. or_right (has_key k es) (key_twice es) (twice_whole es b)) (either (p k && has_key k es) (twice_in p es) e)
+  twice_whole (pair k v es) e = ⊎_elim (λ a. or_left (has_key k es) (key_twice es) (and_parts (p k) (has_key k es) a).1)
+      (λ b. or_right (has_key k es) (key_twice es) (twice_whole es b)) (or_cases (p k && has_key k es) (twice_in p es) e)
 
 module _ (class last : ℕ) (k : List ℕ) where
   pub of_class_lem : of_class class last k ≡ true → bit_and (hash_of k / 2 ^ 28) last ≡ class
@@ -126,11 +86,11 @@ module _ (class last : ℕ) (k : List ℕ) where
 pub no-class : (last : ℕ) (es : Entries) → ((c : ℕ) → c ≤ last → twice_in (of_class c last) es ≡ false) → key_twice es ≡ false
 unfolding twice_in key_twice of_class
 no-class last done h = refl
-no-class last (pair k v es) h = no _ λ t. ⊎_elim
+no-class last (pair k v es) h = false_from_ne_true _ λ t. ⊎_elim
     (λ a. let c : ℕ = bit_and (hash_of k / 2 ^ 28) last in
-    clash (and_both (of_class c last k) (has_key k es) (eq-eqb c c refl) a) (neither (of_class c last k && has_key k es) (twice_in (of_class c last) es) (h c (and_le_r (hash_of k / 2 ^ 28) last))).0)
-    (λ b. clash b (no-class last es (λ c i. (neither (of_class c last k && has_key k es) (twice_in (of_class c last) es) (h c i)).1)))
-    (either (has_key k es) (key_twice es) t)
+    both_ways _ (or_parts (of_class c last k && has_key k es) (twice_in (of_class c last) es) (h c (and_le_r (hash_of k / 2 ^ 28) last))).0 (and_from (of_class c last k) (has_key k es) (eq-eqb c c refl) a))
+    (λ b. both_ways _ (no-class last es (λ c i. (or_parts (of_class c last k && has_key k es) (twice_in (of_class c last) es) (h c i)).1)) b)
+    (or_cases (has_key k es) (key_twice es) t)
 
 pub class-done : (class last : ℕ) (es : Entries) → ((n : ℕ) → n < class → twice_in (of_class n last) es ≡ false) → twice_in (of_class class last) es ≡ false
     → (n : ℕ) → n < class + 1 → twice_in (of_class n last) es ≡ false
@@ -144,9 +104,6 @@ pub classes_done : (class last : ℕ) (es : Entries) → last ≤ class → ((n 
 classes_done class last es l h e = sym (no-class last es (λ n i. class-done class last es h e n (omega arith)))
 
 -- ---- each key searched for behind it
-
-pub judged-none : {s : List ℕ} {from to : ℕ} (es : Entries) → Lies s from to es → LeftOver s to from es
-judged-none es h = record { rest = es; lies = h; whole = refl }
 
 module _ {s : List ℕ} {to at : ℕ} {es : Entries} (w : LeftOver s to at es) where
   pub judged_all : to ≤ at → false ≡ key_twice es
@@ -179,12 +136,12 @@ pub record Passed (s : List ℕ) (from to : ℕ) (p : List ℕ → Bool) (es : E
   pub rest : Entries
   pub before : Lies s from at front
   pub behind : Lies s at to rest
-  pub whole : es ≡ join front rest
+  pub whole : es ≡ front ⋈ rest
   pub fresh : twice_in p front ≡ false
   pub kept : (k : List ℕ) → p k ≡ true → has_key k front ≡ true → Has seen (hash_of k)
 
 pub passed_none : {s : List ℕ} {from to : ℕ} {p : List ℕ → Bool} {seen : List ℕ} (es : Entries) → Lies s from to es → Passed s from to p es from seen
-unfolding encode twice_in has_key
+unfolding encode twice_in has_key ◌⋈◌
 passed_none {s} {from} es h = record {
   front = done;
   rest = es;
@@ -197,14 +154,14 @@ passed_none {s} {from} es h = record {
 
 module _ {s : List ℕ} {from to : ℕ} {p : List ℕ → Bool} {es : Entries} {at : ℕ} {seen : List ℕ} (w : Passed s from to p es at seen) where
   pub passed-all : to ≤ at → twice_in p es ≡ false
-  passed-all h = ap (twice_in p) (w.whole ∙ ap (join w.front) (no_more w.rest h w.behind) ∙ join-done w.front) ∙ w.fresh
+  passed-all h = ap (twice_in p) (w.whole ∙ ap (λ (l : Entries). w.front ⋈ l) (no_more w.rest h w.behind) ∙ none_more w.front) ∙ w.fresh
 
   module _ {entry : Pair} (t : Turn s at to w.rest entry) where
     abbrev key : List ℕ
     key = t.entry.k
 
     pub passed-again : p key ≡ true → has_key key w.front ≡ true → twice_in p es ≡ true
-    passed-again e h = ap (twice_in p) (w.whole ∙ ap (join w.front) t.entry.is) ∙ twice-join p w.front key t.entry.v t.entry.others e h
+    passed-again e h = ap (twice_in p) (w.whole ∙ ap (λ (l : Entries). w.front ⋈ l) t.entry.is) ∙ twice-join p w.front key t.entry.v t.entry.others e h
 
     lies-add : Lies s from entry.next (add w.front key t.entry.v)
     unfolding encode
@@ -223,8 +180,8 @@ module _ {s : List ℕ} {from to : ℕ} {p : List ℕ → Bool} {es : Entries} {
       rest = t.entry.others;
       before = lies-add;
       behind = t.behind;
-      whole = w.whole ∙ ap (join w.front) t.entry.is ∙ sym (join-add w.front key t.entry.v t.entry.others);
+      whole = w.whole ∙ ap (λ (l : Entries). w.front ⋈ l) t.entry.is ∙ sym (add-more w.front key t.entry.v t.entry.others);
       fresh = twice-add p w.front key t.entry.v w.fresh n;
       kept = λ k e f. ⊎_elim (λ q. subst (λ (l : List ℕ). Has new (hash_of l)) q (here (subst (λ (l : List ℕ). p l ≡ true) (sym q) e)))
-          (λ g. more (hash_of k) (w.kept k e g)) (has-add w.front key k t.entry.v f);
+          (λ g. more (hash_of k) (w.kept k e g)) (has-one w.front key k t.entry.v f);
     }

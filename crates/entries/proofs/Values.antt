@@ -1,48 +1,29 @@
--- What a value is, by its kind. Assumes nothing.
-use Rattle.std.proofs.Common.{◌≡◌, refl, sym, ◌∙◌, ℕ, ◌+◌, arith, List, Bool, length}
-use Rattle.item.specs.Tree.{Yaml, null, bool, int, str, seq, dict, Items, Entries, Ranged}
+-- What a collection is, by its kind. Assumes nothing.
+use Rattle.std.proofs.Common.{◌≡◌, refl, ◌⊎◌, inl, inr, ⊎_elim, ℕ, ◌+◌, ◌<◌, arith, List, length}
+use Rattle.item.specs.Tree.{Shape, Node, Yaml, null, bool, int, str, seq, dict, Ranged}
 use Rattle.item.specs.Encode.{kind_of}
 use Rattle.entries.specs.Entries.{Stands, Holds, content}
-use Rattle.entries.proofs.Standing.{Valued}
 
-pub a-bool : (v : Yaml) → kind_of v ≡ 1 → (b : Bool) × (v ≡ bool b)
-unfolding kind_of
-a-bool null k = absurd (omega arith)
-a-bool (bool b) k = (b, refl)
-a-bool (int z) k = absurd (omega arith)
-a-bool (str t) k = absurd (omega arith)
-a-bool (seq ys) k = absurd (omega arith)
-a-bool (dict es) k = absurd (omega arith)
+-- a sequence or a mapping, and where what is in it stands
+pub record Collection {sh : Shape} (made : Node sh → Yaml) (s : List ℕ) (from to : ℕ) (v : Yaml) : Type 0 where
+  pub inner : Node sh
+  pub is : v ≡ made inner
+  pub holds : Holds s from to inner
 
--- a mapping, and where its entries stand
-pub record Mapped (s : List ℕ) (from to : ℕ) (v : Yaml) : Type 0 where
-  pub entries : Entries
-  pub is : v ≡ dict entries
-  pub holds : Holds s from to entries
+module _ {s : List ℕ} {from to : ℕ} where
+  collection : (v : Yaml) → Ranged v → Stands s from (content v) → to ≡ from + length (content v) → 3 < kind_of v
+      → (Collection seq s from to v × (kind_of v ≡ 4)) ⊎ (Collection dict s from to v × (kind_of v ≡ 5))
+  unfolding kind_of content
+  collection null g st e k = absurd (omega arith)
+  collection (bool b) g st e k = absurd (omega arith)
+  collection (int z) g st e k = absurd (omega arith)
+  collection (str t) g st e k = absurd (omega arith)
+  collection (seq ys) g st e k = inl (record { inner = ys; is = refl; holds = record { ranged = g; lies = record { stands = st; ends = e } } }, refl)
+  collection (dict es) g st e k = inr (record { inner = es; is = refl; holds = record { ranged = g; lies = record { stands = st; ends = e } } }, refl)
 
-pub entries-of : {s : List ℕ} {from to : ℕ} (v : Yaml) → Ranged v → Stands s from (content v) → to ≡ from + length (content v) → kind_of v ≡ 5 → Mapped s from to v
-unfolding kind_of content
-entries-of null g st e k = absurd (omega arith)
-entries-of (bool b) g st e k = absurd (omega arith)
-entries-of (int z) g st e k = absurd (omega arith)
-entries-of (str t) g st e k = absurd (omega arith)
-entries-of (seq ys) g st e k = absurd (omega arith)
-entries-of (dict es) g st e k = record { entries = es; is = refl; holds = record { ranged = g; lies = record { stands = st; ends = e } } }
+  module _ (v : Yaml) (g : Ranged v) (st : Stands s from (content v)) (e : to ≡ from + length (content v)) where
+    pub items_of : kind_of v ≡ 4 → Collection seq s from to v
+    items_of k = ⊎_elim (λ w. w.0) (λ w. absurd (omega (arith, w.1))) (collection v g st e (omega arith))
 
-pub mapped : {s : List ℕ} {p kind from to : ℕ} (v : Yaml) → Ranged v → Valued s p v kind from to → kind ≡ 5 → Mapped s from to v
-mapped v g i k = entries-of v g i.inside i.ends (sym i.kind_is ∙ k)
-
--- a sequence, and where its items stand
-pub record Listed (s : List ℕ) (from to : ℕ) (v : Yaml) : Type 0 where
-  pub items : Items
-  pub is : v ≡ seq items
-  pub holds : Holds s from to items
-
-pub items_of : {s : List ℕ} {from to : ℕ} (v : Yaml) → Ranged v → Stands s from (content v) → to ≡ from + length (content v) → kind_of v ≡ 4 → Listed s from to v
-unfolding kind_of content
-items_of null g st e k = absurd (omega arith)
-items_of (bool b) g st e k = absurd (omega arith)
-items_of (int z) g st e k = absurd (omega arith)
-items_of (str t) g st e k = absurd (omega arith)
-items_of (seq ys) g st e k = record { items = ys; is = refl; holds = record { ranged = g; lies = record { stands = st; ends = e } } }
-items_of (dict es) g st e k = absurd (omega arith)
+    pub entries-of : kind_of v ≡ 5 → Collection dict s from to v
+    entries-of k = ⊎_elim (λ w. absurd (omega (arith, w.1))) (λ w. w.0) (collection v g st e (omega arith))

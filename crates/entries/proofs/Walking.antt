@@ -8,7 +8,7 @@ use Rattle.item.proofs.Size.{item-length, encode-long}
 use Rattle.item.specs.Places.{header_at}
 use Rattle.item.specs.declared.Item.{Item}
 use Rattle.item.specs.declared.Broken.{Broken}
-use Rattle.std.specs.Prelude.{None, Some, Result, Ok, Err}
+use Rattle.std.specs.Prelude.{Some, Result, Ok, Err}
 use Rattle.item.specs.declared.Found.{Found}
 use Rattle.item.specs.declared.Found.TheVariants as found
 use Rattle.item.proofs.Headers.{spans}
@@ -18,8 +18,7 @@ use Rattle.item.specs.Walk.{Gives}
 use Rattle.item.specs.declared.walk.Walk.{Walk}
 use Rattle.std.proofs.Common.{Bor, ◌≡◌, refl, sym, ap, ◌∙◌, subst, ℕ, ◌+◌, ◌-◌, ◌≤◌, ◌<◌, ◌^◌, arith, List, ◌++◌, Bool, true, false, ◌||◌, length, take, drop, length-append, length-take, length-drop, take-append-drop}
 use Rattle.entries.specs.declared.Pair.{Pair}
-use Rattle.entries.specs.declared.Span.{Span}
-use Rattle.entries.specs.Entries.{Stands, Lies, Holds, Places, PairPlaces, Paired, with_value, with_key, pair_at, place_of, Seeks, Finds, span_at}
+use Rattle.entries.specs.Entries.{Stands, Lies, Holds, Places, PairPlaces, Paired, with_value, with_key, pair_at, place_of, Seeks, Finds}
 use Rattle.entries.proofs.Standing.{stands-left, stands-right, stands_at, stands-part, item-head, item-content, value-head}
 
 -- ---- an entry
@@ -120,27 +119,6 @@ unfolding encode
 no-more-items end m h = refl
 no-more-items (y ▸ others) m h = absurd (omega (arith, h.lies.ends, length-append (encode y) (encode others), encode-long y))
 
--- ---- an item by the answer of `item_at`
-
--- a turn of a walk along items
-pub record ItemTurn (s : List ℕ) (at to : ℕ) (ys : Items) (next : ℕ) : Type 0 where
-  pub item : FirstItem s at to ys
-  pub behind : Holds s next to item.others
-
-module _ {s : List ℕ} {at to : ℕ} (ys : Items) (w : length s ≤ 2 ^ 20) (m : at < to) (h : Holds s at to ys) where
-  span-is : (f : FirstItem s at to ys) → span_at at (header_at s at) ≡ Some (record { start = at; end = at + length (encode f.y) })
-  unfolding span_at
-  span-is f = ap (span_at at) (value-head f.y w f.value)
-
-  pub item-turn : {span : Span} → Some span ≡ span_at at (header_at s at) → ItemTurn s at to ys span.end
-  item-turn {span} e =
-      let f = first-item ys m h in
-      let n : at + length (encode f.y) ≡ span.end = cc (e, span-is f) in
-      record { item = f; behind = subst (λ (i : ℕ). Holds s i to f.others) n f.behind }
-
-  pub no_item : {X : Type 0} → None ≡ span_at at (header_at s at) → X
-  no_item e = absurd (let z : ◌≡◌ {A = ℕ} 0 1 = cc (e, span-is (first-item ys m h)) in omega arith)
-
 -- ---- an entry by the answer of `pair_at`
 
 -- whatever stands there
@@ -231,8 +209,8 @@ lies_in c h = rw (c.bytes, c.first, c.last) h
 
 -- by what `has_key` ensures of it
 pub has_in : {whole part : Bor (List ℕ)} {start end from to : ℕ} {es : Entries} {b : Bool} (key : List ℕ) → Cut whole part start end from to → Lies whole.now from to es
-    → ((fs : Entries) → take (end - start) (drop start part.now) ≡ encode fs → b ≡ has_key key fs) → b ≡ has_key key es
-has_in {es = es} key c h e = e es (rw (c.bytes, c.first, c.last) (stands-part h.stands _ (omega (arith, h.ends))))
+    → ((fs : Entries) → Lies part.now start end fs → b ≡ has_key key fs) → b ≡ has_key key es
+has_in {es = es} key c h e = e es (lies_in c h)
 
 -- ---- the search for a key
 
@@ -321,4 +299,4 @@ lies-between s from to es h g e =
     }
 
 -- a key that was looked for in a part
-pub ruleset keys = (key-there, key-missing, lies-between)
+pub ruleset keys = (key-there, key-missing)

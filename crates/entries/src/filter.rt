@@ -3,7 +3,7 @@
 ghost use Rattle.std.specs.Prelude.{◌≡◌, ◌<◌, ◌^◌, IfOk, length};
 ghost use Rattle.item.specs.Tree.{Entries};
 ghost use Rattle.entries.specs.Entries.{LiesIn, key_twice};
-ghost use Rattle.entries.specs.Contract.{hash_of, bits_of, Marked, twice_in, of_class};
+ghost use Rattle.entries.specs.Contract.{hash_of, bit, bits_of, Marked, twice_in, of_class};
 
 use crate::sorted::sorted_repeats;
 use crate::{Pair, has_key, nth_item};
@@ -21,22 +21,29 @@ struct Crowded;
 fn hash(key: &[u8]) -> usize
     ensures { result ≡ hash_of key.now }
 {
-    let mut hash: usize = 0;
+    let mut hash: u32 = 0;
     for &byte in key {
-        hash = (hash + byte as usize + 1) * 16777619 % 4294967296;
+        hash = hash
+            .wrapping_add(u32::from(byte) + 1)
+            .wrapping_mul(16777619);
     }
-    hash
+    hash as usize
+}
+
+// One bit of a word, by the last six bits of a number.
+#[tactic(auto, unfolding(crate::specs::Contract::bit))]
+fn bit(n: usize) -> usize
+    ensures { result ≡ bit n }
+{
+    1 << (n % 64)
 }
 
 // Up to three bits of a word.
-#[tactic(auto, unfolding(crate::specs::Contract::bits_of, crate::specs::Contract::bit))]
+#[tactic(auto, unfolding(crate::specs::Contract::bits_of))]
 fn bits_of(hash: usize) -> usize
     ensures { result ≡ bits_of hash }
 {
-    let first: usize = 1 << (hash / WORDS % 64);
-    let second: usize = 1 << (hash / 131072 % 64);
-    let third: usize = 1 << (hash / 8388608 % 64);
-    first | second | third
+    bit(hash >> 11) | bit(hash >> 17) | bit(hash >> 23)
 }
 
 // Whether the bits of a hash were there; now they are.
@@ -70,17 +77,14 @@ fn class_repeats(
         };
         let key = &part.bytes[pair.start..pair.end];
         let hash = hash(key);
-        let is_of_class = (hash / 268435456) & last == class;
+        let is_of_class = (hash >> 28) & last == class;
         if is_of_class && mark(seen, hash) {
             // The entries before this one end where its key's header begins.
             let before = part.encoded().part(part.from, pair.start - HEADER);
             if has_key(before, key) {
                 return Ok(true);
             }
-            if spare == 0 {
-                return Err(Crowded);
-            }
-            spare -= 1;
+            spare = spare.checked_sub(1).ok_or(Crowded)?;
         }
     }
     Ok(false)
@@ -120,10 +124,10 @@ fn few_repeat(part: Part<'_>) -> bool
     false
 }
 
-// Whether more than so many items stand in a part; each has six bytes and more. No contract: the answer picks among ways that all tell
+// Whether more than so many items stand in a part; each has a header. No contract: the answer picks among ways that all tell
 // the same, by how long each takes.
 fn has_more(part: Part<'_>, items: usize) -> bool {
-    (part.to - part.from) / 6 > items
+    (part.to - part.from) / HEADER > items
         && nth_item(part.bytes, part.from, items).is_some_and(|item| item.start < part.to)
 }
 

@@ -26,6 +26,7 @@ pub struct Span {
 pub struct Pair {
     pub start: usize,
     pub end: usize,
+    // Nothing reads it; `pair_at` promises it, as what an entry's two headers say.
     pub kind: usize,
     pub next: usize,
 }
@@ -99,6 +100,7 @@ pub fn find(part: Part<'_>, key: &[u8]) -> Found
         let Ok(pair) = pair else {
             return Found::Nothing;
         };
+        // As `same_bytes` has it, but the lengths before the part is lent: most keys differ there, and are spared its bounds.
         let is_as_long = pair.end - pair.start == key.len();
         if is_as_long && equal_bytes(&part.bytes[pair.start..pair.end], key) {
             return Found::At(pair.end);
@@ -110,7 +112,7 @@ pub fn find(part: Part<'_>, key: &[u8]) -> Found
 /// Whether a key is one of the entries of a part.
 #[tactic(auto, using(crate::proofs::Walking::keys))]
 pub fn has_key(part: Part<'_>, key: &[u8]) -> bool
-    ensures { (es : Entries) → take (part.entry.to - part.entry.from) (drop part.entry.from part.entry.bytes.now) ≡ encode es → result ≡ has_key key.now es }
+    ensures { (es : Entries) → LiesIn part.entry es → result ≡ has_key key.now es }
 {
     matches!(find(part, key), Found::At(_))
 }

@@ -44,7 +44,8 @@ fn compare_bytes(a: &[u8], b: &[u8]) -> Ordering
     Ordering::Equal
 }
 
-// The shorter is below, so that most are told by their lengths.
+// The shorter is below, so that most are told by their lengths. Asked first whether these are equal: `then_with` makes their order before,
+// which takes two instructions more for each key.
 fn compare(a: &[u8], b: &[u8]) -> Ordering
     ensures { result ≡ key_cmp a.now b.now }
 {
@@ -54,7 +55,8 @@ fn compare(a: &[u8], b: &[u8]) -> Ordering
     compare_bytes(a, b)
 }
 
-// A place put in among the first of some. A loop, since libraries call no `memmove`.
+// A place put in among the first of some. A loop, since libraries call no `memmove`, as `copy_within` and `rotate_right` may; and by index,
+// since each place is read where its neighbour is written, and no iterator lends both.
 fn insert(places: &mut [KeyPlace; KEYS], count: usize, index: usize, place: KeyPlace)
     requires { (index ≤ count) × (count < 2 ^ 11) }
     ensures { Inserted places.old places.new count index place }

@@ -2,6 +2,7 @@
 use Rattle.std.specs.Prelude.{if◌then◌else◌}
 use Rattle.std.proofs.Common.{◌≡◌, refl, sym, ◌∙◌, ℕ, zero, suc, ◌+◌, ◌≤◌, arith, List, [], ◌∷◌, Bool, true, false, ◌&&◌, ◌||◌, not, eqb, length, eqb-true}
 use Rattle.std.proofs.Math.Bool.{false≢true, and_comm}
+use Rattle.std.proofs.lemmas.Bool.{or_parts}
 use Rattle.refusal.specs.Base.{Answer, good, refused, ◌>>=◌, ◌>>◌, given, ch}
 use Rattle.refusal.proofs.Tools.{bind-cong}
 use Rattle.item.specs.Tree.{Items, end, ◌▸◌, ◌◂◌, no_item, Entries, add, no_entry}
@@ -10,7 +11,7 @@ use Rattle.scalar.specs.Scalars.{key_text}
 use Rattle.scalar.specs.Read.{Reader, stop, skip_spaces}
 use Rattle.flow.specs.Flow.{stuck, item_turn, items, behind_colon, fresh, entry_value, entry_turn, entries}
 use Rattle.flow.specs.Contract.{separates, skip_separators, entry_of}
-use Rattle.flow.proofs.Progress.{Takes, first, items-none, items-enough, entries_none, entries-enough}
+use Rattle.flow.proofs.Progress.{Takes, first, first-le, items-none, items-enough, entries_none, entries-enough}
 
 bind_assoc : {A B C : Type 0} (a : Answer A) (f : A → Answer B) (g : B → Answer C) → (a >>= f >>= g) ≡ (a >>= λ x. f x >>= g)
 unfolding ◌>>=◌
@@ -24,22 +25,13 @@ bind-good a f = refl
 -- what begins with no separator begins with no space
 no-space : (got : Bool) (b : ℕ) → separates got b ≡ false → (eqb b (ch " ") ≡ false) × (got && eqb b (ch ",") ≡ false)
 unfolding separates
-no-space got b e = go (eqb b (ch " ")) (got && eqb b (ch ",")) e
-  where
-    go : (x y : Bool) → x || y ≡ false → (x ≡ false) × (y ≡ false)
-    go false y e = (refl, e)
-    go true y e = absurd (false≢true (sym e))
+no-space got b e = or_parts (eqb b (ch " ")) (got && eqb b (ch ",")) e
 
 module _ (cap n : ℕ) (inside : Reader) (h : Takes cap n inside) where
   first_some : (got : Items) → no_item got ≡ false → first cap n got ≡ 0
   unfolding first no_item
   first_some end e = absurd (false≢true (sym e))
   first_some (y ▸ ys) e = refl
-
-  first-le : (got : Items) → first cap n got ≤ 1
-  unfolding first
-  first-le end = omega arith
-  first-le (y ▸ ys) = omega arith
 
   items-space : (t : ℕ) (got : Items) (sum b : ℕ) (bs : List ℕ) → eqb b (ch " ") ≡ true → items cap n inside (suc t) got sum (b ∷ bs) ≡ items cap n inside (suc t) got sum bs
   unfolding items skip_spaces
@@ -69,8 +61,8 @@ module _ (cap n : ℕ) (inside : Reader) (h : Takes cap n inside) where
           → items cap n inside (suc t) got sum (b ∷ bs) ≡ items cap n inside (suc (length (more (x || (not g && y))))) got sum (more (x || (not g && y)))
       go true g y ex eg ey ih = items-space t got sum b bs ex ∙ ih (suc t) (omega arith)
       go false false true ex eg ey ih = items-comma t got sum b bs ex eg ey ∙ ih t (omega (arith, first_some got eg))
-      go false false false ex eg ey ih = items-enough cap n inside h (suc t) (suc (suc (length bs))) got sum (b ∷ bs) p (omega (arith, first-le got))
-      go false true y ex eg ey ih = items-enough cap n inside h (suc t) (suc (suc (length bs))) got sum (b ∷ bs) p (omega (arith, first-le got))
+      go false false false ex eg ey ih = items-enough cap n inside h (suc t) (suc (suc (length bs))) got sum (b ∷ bs) p (omega (arith, first-le cap n got))
+      go false true y ex eg ey ih = items-enough cap n inside h (suc t) (suc (suc (length bs))) got sum (b ∷ bs) p (omega (arith, first-le cap n got))
 
   entries-space : (t : ℕ) (got : Entries) (sum b : ℕ) (bs : List ℕ) → eqb b (ch " ") ≡ true → entries cap n inside (suc t) got sum (b ∷ bs) ≡ entries cap n inside (suc t) got sum bs
   unfolding entries skip_spaces

@@ -1,17 +1,20 @@
 -- Where the loops of the readers of collections stand, and what each of their turns comes to. Assumes nothing.
 use Rattle.std.specs.Prelude.{Result, Ok, Err, if◌then◌else◌}
-use Rattle.std.proofs.Common.{◌≡◌, refl, sym, ap, ◌∙◌, subst, ⊎_elim, ℕ, suc, ◌+◌, ◌-◌, ◌≤◌, ◌<◌, add-one, arith, List, ◌∷◌, ◌++◌, append_assoc, append-nil, Bool, true, false, not, ◌||◌, ltb, length, drop, take, get_or, length-append, length-drop, drop_of_length-le, drop-cons, drop_at, take-add, take-take, length-take-le, lt-ltb, le-ltb, eq-eqb, ne_eqb}
-use Rattle.std.proofs.Math.Bool.{or-true, or-false, or_assoc, false≢true}
+use Rattle.std.proofs.Common.{◌≡◌, refl, sym, ap, ◌∙◌, subst, ⊎_elim, ℕ, suc, ◌+◌, ◌-◌, ◌≤◌, ◌<◌, arith, List, ◌∷◌, ◌++◌, append_assoc, append-nil, Bool, true, false, not, ◌||◌, ltb, length, drop, take, get_or, length-append, length-drop, drop_of_length-le, drop_at, Bor, take-take, length-take-le, lt-ltb, le-ltb, eq-eqb, ne_eqb}
+use Rattle.std.proofs.Math.Bool.{or-true, or_assoc, false≢true}
 use Rattle.std.proofs.Math.Seq.{sets, length-sets, sets-eq}
+use Rattle.std.proofs.lemmas.List.{drop_more, drop-take}
 use Rattle.refusal.specs.Base.{Answer, good, refused, ◌>>=◌, ◌>>◌, ensure, ch, same}
 use Rattle.item.specs.Tree.{Yaml, Items, end, ◌▸◌, ◌◂◌, no_item, Entries, done, pair, add, no_entry, has_key}
 use Rattle.item.specs.Encode.{item, encode}
 use Rattle.item.proofs.Size.{encode-long, item-length}
 use Rattle.item.proofs.Same.{same_refl, same-eq, same-ne}
+use Rattle.item.proofs.Joined.{has-add}
 use Rattle.writer.specs.declared.Writer.{Writer}
 use Rattle.writer.specs.Writing.{cap_of, Appends, Keeps, CutsBack}
 use Rattle.writer.proofs.Laws.{appends_none, appends_more, len_appended, keeps_appended, keeps_same, keeps_more, keeps_cut}
 use Rattle.entries.specs.Entries.{Lies, key_twice}
+use Rattle.entries.proofs.Parts.{in_part}
 use Rattle.entries.proofs.Standing.{stands-part}
 use Rattle.entries.proofs.Walking.{lies-between}
 use Rattle.entries.proofs.Twice.{add-bytes}
@@ -22,7 +25,7 @@ use Rattle.refusal.specs.declared.Refusal.TheVariants.{FlowMappingOpen, FlowSequ
 use Rattle.scalar.specs.Contract.{written, Refuses, WroteValue}
 use Rattle.flow.specs.Flow.{stuck, items, entries, fresh, value}
 use Rattle.flow.specs.Contract.{separates, skip_separators, flow_items, flow_entries, entry_of, Wrote, Reads, pair_bytes, end_of, ClosedBy, ReadsEntries}
-use Rattle.flow.proofs.Progress.{Takes, first, value-takes, items-none, items-enough, entries_none, entries-enough, first-snoc, turn-less}
+use Rattle.flow.proofs.Progress.{Takes, first, value-takes, items-none, items-enough, entries_none, entries-enough, first-le, first-snoc, turn-less}
 use Rattle.flow.proofs.Cases.{comma-off, items-skip, items-close, items-stuck, items-item, entries-skip, entries-close, entries-entry}
 
 -- ---- what is written
@@ -47,10 +50,6 @@ first-none : (cap n : ℕ) (ys : Items) → first cap n ys ≡ 1 → length (enc
 unfolding first encode
 first-none cap n end e = refl
 first-none cap n (y ▸ ys) e = absurd (omega arith)
-
--- the rest of a line from a place on
-pub next : (s : List ℕ) (i : ℕ) → i < length s → drop i s ≡ get_or s i 0 ∷ drop (i + 1) s
-next s i h = rw (add-one, drop-cons s i 0 h)
 
 -- ---- sequences
 
@@ -81,17 +80,13 @@ listed_at {s} {start} {levels} {n} {old} {out} {i} v {before} {p} {j} f u e w o 
     record {
       listed = record {
         got = v.got;
-        same = v.same ∙ items-skip (cap_of old) n (value (cap_of old) n levels true) (value-takes (cap_of old) n levels true) (suc (length (drop i s))) v.got out.used (drop i s) (omega (arith, first-most v.got))
+        same = v.same ∙ items-skip (cap_of old) n (value (cap_of old) n levels true) (value-takes (cap_of old) n levels true) (suc (length (drop i s))) v.got out.used (drop i s) (omega (arith, first-le (cap_of old) n v.got))
             ∙ ap (λ (l : List ℕ). items (cap_of old) n (value (cap_of old) n levels true) (suc (length l)) v.got out.used l) (sym k);
         appends = v.appends;
         within = w;
       };
       other = λ h. rw (f, u) at (o h);
     }
-  where
-    first-most : (ys : Items) → first (cap_of old) n ys ≤ 1
-    first-most end = omega arith
-    first-most (y ▸ ys) = omega arith
 
 module _ {s : List ℕ} {start levels n : ℕ} {old out : Writer} {i : ℕ} (t : ListedAt s start levels n old out i) where
   abbrev v : Listed s start levels n old out i
@@ -118,7 +113,7 @@ module _ {s : List ℕ} {start levels n : ℕ} {old out : Writer} {i : ℕ} (t :
     sep-got = ap (λ (b : Bool). separates b (get_or s i 0)) (some-items v.got old.used p v.appends.used) ∙ t.other h
 
     here : items cap n inside (suc (length (drop i s))) v.got p (drop i s) ≡ items cap n inside (suc (suc (length (drop (i + 1) s)))) v.got p (get_or s i 0 ∷ drop (i + 1) s)
-    here = ap (λ (l : List ℕ). items cap n inside (suc (length l)) v.got p l) (next s i h)
+    here = ap (λ (l : List ℕ). items cap n inside (suc (length l)) v.got p l) (drop_more s i 0 h)
 
     pub list_close : get_or s i 0 ≡ ch "]" → Wrote {A = Items} encode whole s old out (i + 1)
     list_close e = record {
@@ -142,7 +137,7 @@ module _ {s : List ℕ} {start levels n : ℕ} {old out : Writer} {i : ℕ} (t :
         one-item =
             here
             ∙ items-item cap n inside (value-takes cap n levels true) (suc (length (drop (i + 1) s))) p (get_or s i 0) (drop (i + 1) s) v.got sep-got (ne_eqb (get_or s i 0) (ch "]") c) e
-            ∙ ap (λ (l : List ℕ). inside AsValue p l >>= λ x. items cap n inside (suc (length (drop (i + 1) s))) (v.got ◂ x.0) x.1 x.2) (sym (next s i h))
+            ∙ ap (λ (l : List ℕ). inside AsValue p l >>= λ x. items cap n inside (suc (length (drop (i + 1) s))) (v.got ◂ x.0) x.1 x.2) (sym (drop_more s i 0 h))
 
         abbrev Item : Answer (Got Yaml)
         Item = value (cap_of out) n levels true AsValue p (drop i s)
@@ -176,7 +171,7 @@ module _ {s : List ℕ} {start levels n : ℕ} {old out : Writer} {i : ℕ} (t :
               let u : p ≡ old.used + length (encode v.got) = v.appends.used in
               let f : j ≤ length s = w.forward in
               ⊎_elim
-              (λ z. let k : length (drop j s) ≤ length (drop (i + 1) s) = takes.takes AsValue p (get_or s i 0) (drop (i + 1) s) (w.tree, new.used, drop j s) z (ap (inside AsValue p) (sym (next s i h)) ∙ got-is) in omega arith)
+              (λ z. let k : length (drop j s) ≤ length (drop (i + 1) s) = takes.takes AsValue p (get_or s i 0) (drop (i + 1) s) (w.tree, new.used, drop j s) z (ap (inside AsValue p) (sym (drop_more s i 0 h)) ∙ got-is) in omega arith)
               (λ z. let k : length (encode v.got) ≡ 0 = first-none cap n v.got z in omega (arith, left))
               (turn-less cap n (get_or s i 0) (drop (i + 1) s) v.got (ne_eqb (get_or s i 0) (ch "]") c)
               (comma-off cap n inside (value-takes cap n levels true) 0 p (get_or s i 0) (drop (i + 1) s) v.got sep-got (ne_eqb (get_or s i 0) (ch "]") c)) e)
@@ -185,7 +180,7 @@ module _ {s : List ℕ} {start levels n : ℕ} {old out : Writer} {i : ℕ} (t :
           unfolding written ◌>>=◌
           listed_next =
               let z : first cap n (v.got ◂ w.tree) ≡ 0 = first-snoc cap n v.got w.tree in
-              let bi : length (drop i s) ≡ suc (length (drop (i + 1) s)) = ap length (next s i h) in
+              let bi : length (drop i s) ≡ suc (length (drop (i + 1) s)) = ap length (drop_more s i 0 h) in
               record {
                 got = v.got ◂ w.tree;
                 same = v.same ∙ one-item ∙ rw got-is
@@ -197,9 +192,6 @@ module _ {s : List ℕ} {start levels n : ℕ} {old out : Writer} {i : ℕ} (t :
 -- ---- entries
 
 -- what stands before a place that keeps its bytes
-part-before : (l : List ℕ) (at m : ℕ) → at ≤ length l → drop at (take (at + m) l) ≡ take m (drop at l)
-part-before l at m h = ap (drop at) (take-add at m l) ∙ drop_at (take at l) (take m (drop at l)) at (length-take-le at l h)
-
 pub lies-kept : (old new : List ℕ) (at p : ℕ) (es : Entries) → take p new ≡ take p old → p ≤ length new → Lies old at p es → Lies new at p es
 lies-kept old new at p es e h l =
     let m : ℕ = length (encode es) in
@@ -207,14 +199,19 @@ lies-kept old new at p es e h l =
     let d : p - at ≡ m = omega arith in
     lies-between new at p es (omega arith) h (
     ap (λ (k : ℕ). take k (drop at new)) d
-    ∙ sym (part-before new at m (omega arith))
+    ∙ sym (drop-take at m new)
     ∙ ap (drop at) (ap (λ (k : ℕ). take k new) (sym u) ∙ e ∙ ap (λ (k : ℕ). take k old) u)
-    ∙ part-before old at m (omega (arith, l.stands.within))
+    ∙ drop-take at m old
     ∙ stands-part l.stands m refl)
 
 -- entries that stand in some bytes stand in the front of them
 pub lies_in_front : (s : List ℕ) (at p : ℕ) (es : Entries) → p ≤ length s → Lies s at p es → Lies (take p s) at p es
 lies_in_front s at p es h l = lies-kept s (take p s) at p es (take-take p p s (omega arith)) (omega (arith, length-take-le p s h)) l
+
+-- and so in the part of what is written that has their places
+pub lies_in_written : {all part : Bor (List ℕ)} {start end from to at p : ℕ} {s : List ℕ} (es : Entries) → part ≡ all
+    → (from ≤ to → to ≤ length all.now → (start ≡ from) × (end ≡ to)) → from ≡ at → to ≡ p → all.now ≡ take p s → p ≤ length s → Lies s at p es → Lies part.now start end es
+lies_in_written {at = at} {p} {s} es b places f t w h l = in_part es b places (rw (f, t, w) (lies_in_front s at p es h l))
 
 -- what a run of stores holds from its start on
 pub stored-front : (l vs : List ℕ) (i : ℕ) → i + length vs ≤ length l → drop i (sets l i vs) ≡ vs ++ drop (i + length vs) l
@@ -236,11 +233,6 @@ same-sym a b = go (same a b) refl
     go : (t : Bool) → same a b ≡ t → t ≡ same b a
     go true e = sym (subst (λ (l : List ℕ). same l a ≡ true) (same-eq a b e) (same_refl a))
     go false e = sym (same-ne b a (λ q. false≢true (sym e ∙ subst (λ (l : List ℕ). same a l ≡ true) (sym q) (same_refl a))))
-
-has-add : (es : Entries) (k j : List ℕ) (v : Yaml) → has_key j (add es k v) ≡ has_key j es || same k j
-unfolding has_key add
-has-add done k j v = or-false (same k j)
-has-add (pair i u es) k j v = ap (λ (b : Bool). same i j || b) (has-add es k j v) ∙ sym (or_assoc (same i j) (has_key j es) (same k j))
 
 -- with one more entry a key stands twice if its key stands before it, or one did already
 pub twice-add : (es : Entries) (k : List ℕ) (v : Yaml) → key_twice (add es k v) ≡ has_key k es || key_twice es
@@ -344,7 +336,7 @@ module _ {s : List ℕ} {start levels n : ℕ} {old out : Writer} {i : ℕ} (t :
     msep = ap (λ (b : Bool). separates b (get_or s i 0)) (some-entries mv.got old.used mp mv.appends.used) ∙ t.other h
 
     mhere : entries mcap n minside (suc (length (drop i s))) mv.got mp (drop i s) ≡ entries mcap n minside (suc (suc (length (drop (i + 1) s)))) mv.got mp (get_or s i 0 ∷ drop (i + 1) s)
-    mhere = ap (λ (l : List ℕ). entries mcap n minside (suc (length l)) mv.got mp l) (next s i h)
+    mhere = ap (λ (l : List ℕ). entries mcap n minside (suc (length l)) mv.got mp l) (drop_more s i 0 h)
 
     pub map-close : get_or s i 0 ≡ ch "}" → Told (Ok (i + 1)) out
     map-close e = ends-here (Ok (i + 1)) out
@@ -359,7 +351,7 @@ module _ {s : List ℕ} {start levels n : ℕ} {old out : Writer} {i : ℕ} (t :
           mhere
           ∙ entries-entry mcap n minside mtakes (suc (length (drop (i + 1) s))) mp (get_or s i 0) (drop (i + 1) s) mv.got msep (ne_eqb (get_or s i 0) (ch "}") c)
           ∙ ap (λ (l : List ℕ). entry_of mcap n minside mp l
-          >>= λ x. fresh mcap n x.0.0 mv.got >> entries mcap n minside (suc (length (drop (i + 1) s))) (add mv.got x.0.0 x.0.1) x.1 x.2) (sym (next s i h))
+          >>= λ x. fresh mcap n x.0.0 mv.got >> entries mcap n minside (suc (length (drop (i + 1) s))) (add mv.got x.0.0 x.0.1) x.1 x.2) (sym (drop_more s i 0 h))
 
       abbrev Entry : Answer (Got (List ℕ × Yaml))
       Entry = entry_of (cap_of out) n (value (cap_of out) n levels true) mp (drop i s)

@@ -1,6 +1,7 @@
 -- A flow reading leaves no more than it was given, and each turn of a loop takes something: so the loops' counts are never used up. Assumes nothing.
 use Rattle.std.proofs.Common.{◌≡◌, refl, sym, ap, subst, ℕ, zero, suc, ◌+◌, ◌≤◌, ◌<◌, arith, List, [], ◌∷◌, Bool, true, false, ◌&&◌, ◌||◌, not, ◌⊎◌, inl, inr, ⊎_elim, eqb, length}
 use Rattle.std.proofs.Math.Option.{Option, none, some, some-injective, none-ne-some}
+use Rattle.std.proofs.lemmas.Bool.{cond_both}
 use Rattle.refusal.specs.Base.{Answer, good, refused, ◌>>◌, given, ch}
 use Rattle.item.specs.Tree.{Yaml, null, str, Items, end, ◌▸◌, ◌◂◌, no_item, Entries, done, add, no_entry}
 use Rattle.scalar.specs.Scalars.{key_text}
@@ -8,17 +9,17 @@ use Rattle.scalar.specs.declared.Role.{Role}
 use Rattle.scalar.specs.declared.Role.TheVariants.{AsValue, AsKey}
 use Rattle.scalar.specs.Read.{cost, Got, Reader, charge, scalar, plain, plain_text, ends_item, ends_colon, stops_plain, string, skip_spaces, stop, escape, double_quoted, single_quoted, onto_good, onto_escape}
 use Rattle.flow.specs.Flow.{stuck, item_turn, items, behind_colon, fresh, entry_value, entry_turn, entries, flow_seq, flow_map, node, value}
-use Rattle.refusal.proofs.Tools.{good-inj, refused≢good, bound, bound', chosen, bind-cong, if-cong, both}
+use Rattle.refusal.proofs.Tools.{good-inj, refused≢good, bound, bound', chosen, bind-cong, if-cong}
 
 skip-le : (bs : List ℕ) → length (skip_spaces bs) ≤ length bs
 unfolding skip_spaces
 skip-le [] = omega arith
-skip-le (b ∷ bs) = both (λ (r : List ℕ). length r ≤ suc (length bs)) (eqb b (ch " ")) _ _ (omega (arith, skip-le bs)) (omega arith)
+skip-le (b ∷ bs) = cond_both (eqb b (ch " ")) _ _ (λ (r : List ℕ). length r ≤ suc (length bs)) (λ _. omega (arith, skip-le bs)) (λ _. omega arith)
 
 plain-le : (in_flow : Bool) (bs : List ℕ) → length (plain_text in_flow bs).1 ≤ length bs
 unfolding plain_text
 plain-le in_flow [] = omega arith
-plain-le in_flow (b ∷ bs) = both (λ (r : List ℕ × List ℕ). length r.1 ≤ suc (length bs)) (in_flow && stops_plain b bs) _ _ (omega arith) (omega (arith, plain-le in_flow bs))
+plain-le in_flow (b ∷ bs) = cond_both (in_flow && stops_plain b bs) _ _ (λ (r : List ℕ × List ℕ). length r.1 ≤ suc (length bs)) (λ _. omega arith) (λ _. omega (arith, plain-le in_flow bs))
 
 -- plain text that does not stop at once takes a byte
 plain-lt : (in_flow : Bool) (b : ℕ) (bs : List ℕ) → in_flow && stops_plain b bs ≡ false → length (plain_text in_flow (b ∷ bs)).1 ≤ length bs
@@ -185,7 +186,7 @@ module _ (cap n : ℕ) where
   first-snoc end y = refl
   first-snoc (x ▸ xs) y = refl
 
-  first-le : (ys : Items) → first ys ≤ 1
+  pub first-le : (ys : Items) → first ys ≤ 1
   unfolding first
   first-le end = omega arith
   first-le (y ▸ ys) = omega arith

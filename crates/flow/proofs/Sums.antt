@@ -1,15 +1,15 @@
 -- The running sum of a reading is what its tree's encoding takes. Assumes nothing.
-use Rattle.std.specs.Prelude.{if◌then◌else◌}
-use Rattle.std.proofs.Common.{◌≡◌, refl, sym, ap, ◌∙◌, subst, ℕ, zero, suc, ◌+◌, arith, List, [], ◌∷◌, Bool, true, false, ◌&&◌, ◌||◌, not, eqb, leb, ℤ, length}
+use Rattle.std.proofs.Common.{◌≡◌, refl, sym, ap, ◌∙◌, subst, ℕ, zero, suc, ◌+◌, arith, List, [], ◌∷◌, Bool, true, false, ◌&&◌, ◌||◌, not, eqb, leb, length}
 use Rattle.std.proofs.Math.Option.{Option, none, some, some-injective, none-ne-some}
-use Rattle.refusal.specs.Base.{Answer, good, ensure, given, ch, one_of}
+use Rattle.refusal.specs.Base.{Answer, good, ensure, given, ch}
 use Rattle.utf8.specs.White.{trim}
 use Rattle.item.specs.Tree.{Yaml, null, bool, int, str, seq, dict, Items, end, ◌▸◌, ◌◂◌, no_item, Entries, done, pair, add, no_entry}
-use Rattle.number.specs.Integers.{integer, int_text}
-use Rattle.scalar.specs.Scalars.{key_text, bool_text, scalar_of, int_or, nulls, trues, falses}
+use Rattle.number.specs.Integers.{int_text}
+use Rattle.scalar.specs.Scalars.{key_text, bool_text}
 use Rattle.scalar.specs.declared.Role.{Role}
 use Rattle.scalar.specs.declared.Role.TheVariants.{AsValue, AsKey}
 use Rattle.scalar.specs.Read.{cost, Got, Reader, charge, scalar, plain, plain_text, string, skip_spaces, stop}
+use Rattle.scalar.proofs.Laws.{Flat, flat_scalar}
 use Rattle.flow.specs.Flow.{stuck, item_turn, items, behind_colon, fresh, entry_value, entry_turn, entries, flow_seq, flow_map, node, value, flow}
 use Rattle.item.proofs.Size.{size}
 use Rattle.refusal.proofs.Tools.{good-inj, refused≢good, bound, bound', chosen}
@@ -42,32 +42,24 @@ charged cap sum k s e = chosen (leb (sum + k) cap) _ _ e (λ _ p. sym (good-inj 
 abbrev pub Sums : Reader → Type 0
 Sums f = (role : Role) (sum : ℕ) (bs : List ℕ) (g : Got Yaml) → f role sum bs ≡ good g → g.1 ≡ sum + weight role g.0
 
+-- what a scalar adds is what it weighs
+pub cost-scalar : (role : Role) (y : Yaml) → Flat y → cost role y ≡ weight role y
+unfolding cost
+cost-scalar AsValue null h = refl
+cost-scalar AsValue (bool b) h = refl
+cost-scalar AsValue (int z) h = refl
+cost-scalar AsValue (str s) h = refl
+cost-scalar AsValue (seq ys) h = absurd h
+cost-scalar AsValue (dict es) h = absurd h
+cost-scalar AsKey null h = refl
+cost-scalar AsKey (bool b) h = refl
+cost-scalar AsKey (int z) h = refl
+cost-scalar AsKey (str s) h = refl
+cost-scalar AsKey (seq ys) h = absurd h
+cost-scalar AsKey (dict es) h = absurd h
+
 module _ (cap n : ℕ) where
-  -- of a scalar
-  unfoldable pub IsScalar : Yaml → Type 0
-  IsScalar null = Unit {0}
-  IsScalar (bool b) = Unit {0}
-  IsScalar (int z) = Unit {0}
-  IsScalar (str s) = Unit {0}
-  IsScalar (seq ys) = ⊥
-  IsScalar (dict es) = ⊥
-
-  pub cost-scalar : (role : Role) (y : Yaml) → IsScalar y → cost role y ≡ weight role y
-  unfolding cost IsScalar
-  cost-scalar AsValue null h = refl
-  cost-scalar AsValue (bool b) h = refl
-  cost-scalar AsValue (int z) h = refl
-  cost-scalar AsValue (str s) h = refl
-  cost-scalar AsValue (seq ys) h = absurd h
-  cost-scalar AsValue (dict es) h = absurd h
-  cost-scalar AsKey null h = refl
-  cost-scalar AsKey (bool b) h = refl
-  cost-scalar AsKey (int z) h = refl
-  cost-scalar AsKey (str s) h = refl
-  cost-scalar AsKey (seq ys) h = absurd h
-  cost-scalar AsKey (dict es) h = absurd h
-
-  scalar-sum : (role : Role) (sum : ℕ) (y : Yaml) (rest : List ℕ) (g : Got Yaml) → IsScalar y → scalar cap n role sum y rest ≡ good g → g.1 ≡ sum + weight role g.0
+  scalar-sum : (role : Role) (sum : ℕ) (y : Yaml) (rest : List ℕ) (g : Got Yaml) → Flat y → scalar cap n role sum y rest ≡ good g → g.1 ≡ sum + weight role g.0
   unfolding scalar
   scalar-sum role sum y rest g h e = bound (charge cap sum (cost role y)) _ g e λ s p q.
       rw (← good-inj _ _ q) (charged cap sum (cost role y) s p ∙ ap (λ (k : ℕ). sum + k) (cost-scalar role y h))
@@ -107,7 +99,7 @@ module _ (cap n : ℕ) where
   key-weight (dict es) k e = refused≢good k 16 n 0 e
 
   entry_value-sum : (inside : Reader) → Sums inside → (sum : ℕ) (bs : List ℕ) (g : Got Yaml) → entry_value cap n inside sum bs ≡ good g → g.1 ≡ sum + size g.0
-  unfolding entry_value IsScalar
+  unfolding entry_value
   entry_value-sum inside h sum [] g e = h AsValue sum [] g e
   entry_value-sum inside h sum (b ∷ bs) g e =
       chosen (eqb b (ch ",") || eqb b (ch "}")) _ _ e (λ _ q. scalar-sum AsValue sum null (b ∷ bs) g tt q) (λ _ q. h AsValue sum (b ∷ bs) g q)
@@ -139,17 +131,6 @@ module _ (cap n : ℕ) where
 
   -- ---- a value
 
-  pub scalar_of-scalar : (s : List ℕ) → IsScalar (scalar_of s)
-  unfolding scalar_of IsScalar int_or
-  scalar_of-scalar s = go (one_of s nulls) (one_of s trues) (one_of s falses) (integer s)
-    where
-      go : (a b c : Bool) (z : Option ℤ) → IsScalar (if a then null else if b then bool true else if c then bool false else int_or s z)
-      go true b c z = tt
-      go false true c z = tt
-      go false false true z = tt
-      go false false false none = tt
-      go false false false (some z) = tt
-
   flow_seq-sum : (inside : Option Reader) → ((f : Reader) → inside ≡ some f → Sums f) → (role : Role) (sum : ℕ) (bs : List ℕ) (g : Got Yaml) → flow_seq cap n inside sum bs ≡ good g → g.1 ≡ sum + weight role g.0
   unfolding flow_seq stop
   flow_seq-sum none h role sum bs g e = refused≢good g 20 n 0 e
@@ -173,11 +154,11 @@ module _ (cap n : ℕ) where
       opened AsKey es p = p
 
   string-sum : (role : Role) (sum : ℕ) (t : Answer (List ℕ × List ℕ)) (g : Got Yaml) → string cap n role sum t ≡ good g → g.1 ≡ sum + weight role g.0
-  unfolding string IsScalar
+  unfolding string
   string-sum role sum t g e = bound t _ g e λ x p q. scalar-sum role sum (str x.0) x.1 g tt q
 
   node-sum : (inside : Option Reader) → ((f : Reader) → inside ≡ some f → Sums f) → (in_flow : Bool) → Sums (node cap n inside in_flow)
-  unfolding node plain stop IsScalar
+  unfolding node plain stop
   node-sum inside h in_flow role sum [] g e = scalar-sum role sum null [] g tt e
   node-sum inside h in_flow role sum (b ∷ bs) g e =
       chosen (eqb b (ch "{")) _ _ e (λ _ q. flow_map-sum inside h role sum bs g q)
@@ -185,7 +166,7 @@ module _ (cap n : ℕ) where
       λ _ p. chosen (eqb b (ch "\"")) _ _ p (λ _ q. string-sum role sum _ g q)
       λ _ p. chosen (eqb b (ch "'")) _ _ p (λ _ q. string-sum role sum _ g q)
       λ _ p. chosen (eqb b (ch "&") || eqb b (ch "*") || eqb b (ch "!")) _ _ p (λ _ q. refused≢good g 7 n 0 q)
-      λ _ p. scalar-sum role sum _ _ g (scalar_of-scalar (trim (plain_text in_flow (b ∷ bs)).0)) p
+      λ _ p. scalar-sum role sum _ _ g (flat_scalar (trim (plain_text in_flow (b ∷ bs)).0)) p
 
   value-sum : (levels : ℕ) (in_flow : Bool) → Sums (value cap n levels in_flow)
   unfolding value

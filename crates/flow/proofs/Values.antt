@@ -1,10 +1,12 @@
 -- What a value and an entry come to, by the bytes at their places. Assumes nothing.
-use Rattle.std.specs.Prelude.{Result, Ok, Err}
+use Rattle.std.specs.Prelude.{Result, Ok, Err, IsErrAnd}
 use Rattle.std.proofs.Common.{◌≡◌, refl, sym, ap, ◌∙◌, ◌⊎◌, inl, inr, ⊎_elim, ℕ, zero, suc, ◌+◌, ◌-◌, ◌≤◌, ◌<◌, arith, List, ◌∷◌, Bool, true, false, length, drop, get_or, length-drop, drop_of_length-le, eq-eqb, ne_eqb, le-leb}
 use Rattle.std.proofs.Math.Bool.{false≢true}
 use Rattle.std.proofs.Math.Option.{none, some}
 use Rattle.std.proofs.lemmas.Bool.{lt-leb}
+use Rattle.std.proofs.lemmas.List.{drop_more}
 use Rattle.refusal.specs.Base.{Answer, good, refused, ◌>>=◌, ◌>>◌, ensure, given, ch, empty}
+use Rattle.refusal.proofs.Tools.{err_is}
 use Rattle.refusal.specs.declared.Refusal.{Refusal}
 use Rattle.refusal.specs.declared.Refusal.TheVariants.{KeyNotScalar, KeyWithoutColon, TextAfterValue}
 use Rattle.item.specs.Tree.{Yaml, null, bool, int, str, seq, dict, Items, Entries}
@@ -22,14 +24,23 @@ use Rattle.scalar.specs.Scalars.{key_text, bool_text}
 use Rattle.scalar.specs.Read.{Got, charge, stop, scalar, skip_spaces, string, double_quoted, single_quoted, plain}
 use Rattle.scalar.specs.Contract.{written, is_key, Refuses, WroteValue, ReadsValue}
 use Rattle.flow.specs.Flow.{behind_colon, entry_value, flow_seq, flow_map, node, value, flow}
-use Rattle.flow.specs.Contract.{separates, skip_separators, leaves_out, levels_inside, flow_items, flow_entries, entry_of, Wrote, pair_bytes, WroteWhole}
+use Rattle.flow.specs.Contract.{separates, skip_separators, leaves_out, levels_inside, flow_items, flow_entries, entry_of, Wrote, Reads, pair_bytes, ReadsPair, WroteWhole}
 use Rattle.flow.proofs.Progress.{Takes, value-takes, entry_value-le}
-use Rattle.flow.proofs.Invariants.{next}
 
 -- a reader's answer in the words of another definition
 pub reads_as : (role : Role) (x y : Answer (Got Yaml)) (s : List ℕ) (old new : Writer) (r : Result Parsed Refusal) → x ≡ y → ReadsValue role y s old new r → ReadsValue role x s old new r
 reads_as role x y s old new (Ok p) e w = record { tree = w.tree; is = e ∙ w.is; appends = w.appends; forward = w.forward; keyed = w.keyed }
 reads_as role x y s old new (Err z) e w = record { is = e ∙ w.is; keeps = w.keeps }
+
+-- a value is read, or refused, in the words of another definition; of what was read the place alone is told
+pub place_read : (x y : Answer (Got Yaml)) (s : List ℕ) (old new : Writer) (next : ℕ) (key : Bool) → x ≡ y → WroteValue AsValue y s old new next key
+    → Wrote {A = Yaml} encode x s old new next
+unfolding written
+place_read x y s old new next key e w = record { got = w.tree; is = e ∙ w.is; appends = w.appends; forward = w.forward }
+
+pub place_refused : (x y : Answer (Got Yaml)) (s : List ℕ) (old new : Writer) (r : Result ℕ Refusal) (z : Refusal) → IsErrAnd r (λ e. e ≡ z) → x ≡ y
+    → Refuses y old new z → Reads {A = Yaml} encode x s old new r
+place_refused x y s old new r z h e w = rw (err_is r h) (record { is = e ∙ w.is; keeps = w.keeps })
 
 value-node : (cap n levels : ℕ) (in_flow : Bool) (role : Role) (sum : ℕ) (bs : List ℕ) → value cap n levels in_flow role sum bs ≡ node cap n (levels_inside cap n levels) in_flow role sum bs
 unfolding value levels_inside
@@ -61,7 +72,7 @@ module _ (s : List ℕ) (i cap n levels : ℕ) (in_flow : Bool) (role : Role) (s
     b = get_or s i 0
 
     at : it ≡ node cap n (levels_inside cap n levels) in_flow role sum (b ∷ drop (i + 1) s)
-    at = value-node cap n levels in_flow role sum (drop i s) ∙ ap (node cap n (levels_inside cap n levels) in_flow role sum) (next s i h)
+    at = value-node cap n levels in_flow role sum (drop i s) ∙ ap (node cap n (levels_inside cap n levels) in_flow role sum) (drop_more s i 0 h)
 
     pub value-map : b ≡ ch "{" → it ≡ flow_map cap n (levels_inside cap n levels) sum (drop (i + 1) s)
     unfolding node
@@ -98,7 +109,7 @@ module _ (s : List ℕ) (i cap n levels : ℕ) (in_flow : Bool) (role : Role) (s
           ne_eqb b (ch "*") (λ e. a (inr (inr e))),
           ne_eqb b (ch "!") (λ e. a (inl e)),
         )
-        (ap (plain cap n in_flow role sum) (sym (next s i h)))
+        (ap (plain cap n in_flow role sum) (sym (drop_more s i 0 h)))
 
 -- ---- a collection that opens
 
@@ -224,11 +235,11 @@ module _ (s : List ℕ) (i cap n levels sum : ℕ) where
   module _ (h : i < length s) where
     pub value_null : leaves_out (get_or s i 0) ≡ true → valued ≡ scalar cap n AsValue sum null (drop i s)
     unfolding entry_value leaves_out
-    value_null e = rw (next s i h, e)
+    value_null e = rw (drop_more s i 0 h, e)
 
     pub value_there : leaves_out (get_or s i 0) ≡ false → valued ≡ value cap n levels true AsValue sum (drop i s)
     unfolding entry_value leaves_out
-    value_there e = ap (entry_value cap n (value cap n levels true) sum) (next s i h) ∙ rw e (ap (value cap n levels true AsValue sum) (sym (next s i h)))
+    value_there e = ap (entry_value cap n (value cap n levels true) sum) (drop_more s i 0 h) ∙ rw e (ap (value cap n levels true AsValue sum) (sym (drop_more s i 0 h)))
 
 -- a key's text, and the item that is written for it
 pub record Named (y : Yaml) : Type 0 where
@@ -281,7 +292,7 @@ module _ (s : List ℕ) (i n levels : ℕ) (old : Writer) where
       module _ (h : c < length s) where
         pub entry_colonless : (get_or s c 0 ≡ ch ":" → ⊥) → Refuses whole old mid (KeyWithoutColon n)
         unfolding entry_of ◌>>=◌ given behind_colon stop
-        entry_colonless e = record { is = rw (w.is, nm.says, ← sk, next s c h, ne_eqb (get_or s c 0) (ch ":") e); keeps = keeps_appended w.appends }
+        entry_colonless e = record { is = rw (w.is, nm.says, ← sk, drop_more s c 0 h, ne_eqb (get_or s c 0) (ch ":") e); keeps = keeps_appended w.appends }
 
         module _ (e : get_or s c 0 ≡ ch ":") (d : ℕ) (sd : drop d s ≡ skip_spaces (drop (c + 1) s)) where
           abbrev Value : Answer (Got Yaml)
@@ -289,29 +300,34 @@ module _ (s : List ℕ) (i n levels : ℕ) (old : Writer) where
 
           to-value : whole ≡ (Value >>= λ v. good ((nm.name, v.0), v.1, v.2))
           unfolding entry_of ◌>>=◌ given behind_colon
-          to-value = rw (w.is, nm.says, ← sk, next s c h, e, sd, len_appended w.appends)
+          to-value = rw (w.is, nm.says, ← sk, drop_more s c 0 h, e, sd, len_appended w.appends)
 
           pub entry_stops : (new : Writer) (z : Refusal) → Refuses Value mid new z → Refuses whole old new z
           unfolding ◌>>=◌
           entry_stops new z r = record { is = to-value ∙ rw r.is; keeps = keeps_more (keeps_appended w.appends) r.keeps }
 
-          pub entry_reads : i ≤ length s → j ≤ c → c < d → d ≤ length s → (new : Writer) (m : ℕ) (key' : Bool) → WroteValue AsValue Value s mid new m key'
+          pub entry_reads : i ≤ length s → j ≤ c → c < d → d ≤ length s → (new : Writer) (m : ℕ) → Wrote {A = Yaml} encode Value s mid new m
               → Wrote pair_bytes whole s old new m × (i < m)
           unfolding ◌>>=◌ written
-          entry_reads wi jc cd dl new m key' x =
+          entry_reads wi jc cd dl new m x =
               let tk : Takes ecap n (value ecap n levels true) = value-takes ecap n levels true in
               let tm : Takes (cap_of mid) n (value (cap_of mid) n levels true) = value-takes (cap_of mid) n levels true in
               let l₁ : length (drop j s) ≤ length (drop i s) = tk.some_left AsKey old.used (drop i s) (w.tree, mid.used, drop j s) w.is in
-              let l₂ : length (drop m s) ≤ length (drop d s) = entry_value-le (cap_of mid) n (value (cap_of mid) n levels true) tm mid.used (drop d s) (x.tree, new.used, drop m s) x.is in
+              let l₂ : length (drop m s) ≤ length (drop d s) = entry_value-le (cap_of mid) n (value (cap_of mid) n levels true) tm mid.used (drop d s) (x.got, new.used, drop m s) x.is in
               let a : Appends old mid (item 3 nm.name) = rw (← nm.put) w.appends in (
                 record {
-                  got = (nm.name, x.tree);
+                  got = (nm.name, x.got);
                   is = to-value ∙ rw x.is;
                   appends = appends_more a x.appends;
                   forward = x.forward;
                 },
                 omega (arith, length-drop i s, length-drop j s, length-drop d s, length-drop m s, w.forward, x.forward),
               )
+
+          -- either, as the value is read
+          pub entry_ends_so : i ≤ length s → j ≤ c → c < d → d ≤ length s → (new : Writer) (r : Result ℕ Refusal) → Reads {A = Yaml} encode Value s mid new r → ReadsPair whole s old new i r
+          entry_ends_so wi jc cd dl new (Ok m) x = entry_reads wi jc cd dl new m x
+          entry_ends_so wi jc cd dl new (Err z) x = entry_stops new z x
 
 -- ---- what stands between values
 
@@ -327,19 +343,19 @@ module _ (s : List ℕ) (i : ℕ) where
   module _ (h : i < length s) where
     pub spaces-here : (get_or s i 0 ≡ ch " " → ⊥) → skip_spaces (drop i s) ≡ drop i s
     unfolding skip_spaces
-    spaces-here e = ap skip_spaces (next s i h) ∙ rw (ne_eqb (get_or s i 0) (ch " ") e) (sym (next s i h))
+    spaces-here e = ap skip_spaces (drop_more s i 0 h) ∙ rw (ne_eqb (get_or s i 0) (ch " ") e) (sym (drop_more s i 0 h))
 
     pub spaces-on : get_or s i 0 ≡ ch " " → skip_spaces (drop i s) ≡ skip_spaces (drop (i + 1) s)
     unfolding skip_spaces
-    spaces-on e = ap skip_spaces (next s i h) ∙ rw (eq-eqb (get_or s i 0) (ch " ") e)
+    spaces-on e = ap skip_spaces (drop_more s i 0 h) ∙ rw (eq-eqb (get_or s i 0) (ch " ") e)
 
     pub separators-here : (got : Bool) → separates got (get_or s i 0) ≡ false → skip_separators got (drop i s) ≡ drop i s
     unfolding skip_separators
-    separators-here got e = ap (skip_separators got) (next s i h) ∙ rw e (sym (next s i h))
+    separators-here got e = ap (skip_separators got) (drop_more s i 0 h) ∙ rw e (sym (drop_more s i 0 h))
 
     pub separators-on : (got : Bool) → separates got (get_or s i 0) ≡ true → skip_separators got (drop i s) ≡ skip_separators got (drop (i + 1) s)
     unfolding skip_separators
-    separators-on got e = ap (skip_separators got) (next s i h) ∙ rw e
+    separators-on got e = ap (skip_separators got) (drop_more s i 0 h) ∙ rw e
 
 -- the place that a search for what stands behind spaces, or behind separators, finds
 module _ (s : List ℕ) (from r : ℕ) where
@@ -374,11 +390,11 @@ module _ (s : List ℕ) (n levels : ℕ) (role : Role) (old new : Writer) where
 
     pub part_more : c < length s → Refuses all old new (TextAfterValue n)
     unfolding flow ◌>>=◌ ◌>>◌ ensure empty
-    part_more h = record { is = rw (w.is, ← sc, next s c h); keeps = keeps_appended w.appends }
+    part_more h = record { is = rw (w.is, ← sc, drop_more s c 0 h); keeps = keeps_appended w.appends }
 
-pub ruleset entry_values = (reads_as, value_null, value_there, value_last)
+pub ruleset entry_values = (place_read, place_refused, value_null, value_there, value_last)
 
-pub ruleset entries = (entry_refused, entry_unnamed, entry_ends, entry_colonless, entry_stops, entry_reads)
+pub ruleset entries = (entry_refused, entry_unnamed, entry_ends, entry_colonless, entry_ends_so)
 
 pub ruleset collections = (value-deep, value-full, mapping_stops, mapping_wrote, sequence_stops, sequence_wrote, keeps_same)
 

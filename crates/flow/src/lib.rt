@@ -1,9 +1,9 @@
 // One line's value: a scalar, a flow sequence or a flow mapping, written as it is read. A reader is lent the part of a line that it reads, as
-// `s`, and the writer that it writes into; what it wrote before a refusal is kept. Part and place are two parameters, and no struct with the
-// bound of 65,535 bytes in it: the readers are the core that a `Cursor`, which has both, calls by a few thin functions.
+// `s`, and the writer that it writes into; what it wrote before a refusal is kept. Part and place are two parameters, and no struct of both:
+// the readers are the core that a `Cursor`, which is that struct, calls by a few thin functions.
 #![tactic(auto)]
 
-ghost use Rattle.std.specs.Prelude.{◌≡◌, ◌⊎◌, Bool, true, false, ◌+◌, ◌≤◌, ◌<◌, ◌^◌, length, drop, get_or};
+ghost use Rattle.std.specs.Prelude.{◌≡◌, ◌⊎◌, Bool, true, false, ◌+◌, ◌-◌, ◌≤◌, ◌<◌, ◌^◌, length, drop, get_or, MatchResult};
 ghost use Rattle.item.specs.Encode.{encode};
 ghost use Rattle.writer.specs.Writing.{cap_of};
 ghost use Rattle.scalar.specs.declared.Role.{Role as Roles};
@@ -38,6 +38,24 @@ struct Site {
     line: u32,
 }
 
+impl Site {
+    // Inside a collection that opens here.
+    fn inside(self) -> Result<Site, Refusal>
+        ensures { MatchResult result (λ inside. (self.levels ≡ 0 → ⊥) × (inside.levels ≡ self.levels - 1) × (inside.line ≡ self.line))
+            (λ e. (self.levels ≡ 0) × (e ≡ Refusal.TooDeep self.line)) }
+    {
+        let levels = levels_inside(self.levels, self.line)?;
+        Ok(Site { levels, ..self })
+    }
+}
+
+/// How many more collections may be opened inside one that line `line` opens.
+pub fn levels_inside(levels: usize, line: u32) -> Result<usize, Refusal>
+    ensures { MatchResult result (λ inside. (levels ≡ 0 → ⊥) × (inside ≡ levels - 1)) (λ e. (levels ≡ 0) × (e ≡ Refusal.TooDeep line)) }
+{
+    levels.checked_sub(1).ok_or(Refusal::TooDeep { line })
+}
+
 fn skip_spaces(s: &[u8], from: usize) -> usize
     requires { from ≤ length s.now }
     ensures rest { drop result s.now ≡ skip_spaces (drop from s.now) }
@@ -47,8 +65,8 @@ fn skip_spaces(s: &[u8], from: usize) -> usize
     first_place(from, s.len(), |i| s[i] != b' ')
 }
 
-// Whether a byte separates the items of a collection: a space, and once there is an item, a comma. `got` is a bool, as the definitions ask
-// it: what counts is that there is an item, and no reader has more to tell of it.
+// Whether a byte separates the items of a collection: a space, and once there is an item, a comma. `got` says whether there is one: a
+// `bool`, since each caller has it from one comparison, and the two names of an enum would only be compared again.
 #[tactic(auto, unfolding(crate::specs::Contract::separates))]
 fn separates(b: u8, got: bool) -> bool
     ensures { result ≡ agree.separates got b }
@@ -75,12 +93,12 @@ fn stuck(s: &[u8], i: usize) -> bool
     s[i] == b'}' || s[i] == b':' && scalar::ends_colon(s, i + 1)
 }
 
-// The items behind a `[`, and the place behind the `]` that closes them. A `loop`, here and in `entries`: it goes on where a value ends.
+// The items behind a `[`, and the place behind the `]` that closes them. A `loop`, here and in `entries`: it goes on where a value ends. The
+// readers ask a place and then take its byte, not by `get`: all that is known of what stands there names the place.
 #[tactic(auto, using(crate::proofs::Invariants::lists))]
 #[cycle(reading)]
 fn sequence(s: &[u8], start: usize, site: Site, writer: &mut Writer<'_>) -> Result<usize, Refusal>
-    requires in_range { start ≤ length s.now }
-    requires short { length s.now ≤ 65535 }
+    requires { start ≤ length s.now }
     ensures { Reads encode (flow_items (cap_of writer.old) site.line site.levels writer.old.used (drop start s.now))
         s.now writer.old writer.new result }
 {
@@ -111,28 +129,29 @@ fn leaves_out(b: u8) -> bool
     matches!(b, b',' | b'}')
 }
 
-// The value of an entry, null where it is left out.
+// The value of an entry, null where it is left out, and the place behind it. The place alone: whole, the answer of `value` would be stored
+// and at once read again.
 #[tactic(auto, using(crate::proofs::Values::entry_values))]
 #[cycle(reading)]
-fn entry_value(s: &[u8], i: usize, site: Site, writer: &mut Writer<'_>) -> Result<Parsed, Refusal>
-    requires in_range { i ≤ length s.now }
-    requires short { length s.now ≤ 65535 }
-    ensures { ReadsValue AsValue (entry_value (cap_of writer.old) site.line
+fn entry_value(s: &[u8], i: usize, site: Site, writer: &mut Writer<'_>) -> Result<usize, Refusal>
+    requires { i ≤ length s.now }
+    ensures { Reads encode (entry_value (cap_of writer.old) site.line
         (definition.value (cap_of writer.old) site.line site.levels true) writer.old.used (drop i s.now))
         s.now writer.old writer.new result }
 {
     if i < s.len() && leaves_out(s[i]) {
-        return scalar::null_at(s, i, Role::AsValue, writer);
+        let null = scalar::null_at(s, i, Role::AsValue, writer)?;
+        return Ok(null.next);
     }
-    value(s, i, site, Stops::InFlow, Role::AsValue, writer)
+    let read = value(s, i, site, Stops::InFlow, Role::AsValue, writer)?;
+    Ok(read.next)
 }
 
 // A key, a colon and a value, and the place behind them.
 #[tactic(auto, using(crate::proofs::Values::entries))]
 #[cycle(reading)]
 fn entry(s: &[u8], i: usize, site: Site, writer: &mut Writer<'_>) -> Result<usize, Refusal>
-    requires in_range { i ≤ length s.now }
-    requires short { length s.now ≤ 65535 }
+    requires { i ≤ length s.now }
     ensures { ReadsPair (entry_of (cap_of writer.old) site.line (definition.value (cap_of writer.old) site.line site.levels true)
         writer.old.used (drop i s.now)) s.now writer.old writer.new i result }
 {
@@ -144,8 +163,7 @@ fn entry(s: &[u8], i: usize, site: Site, writer: &mut Writer<'_>) -> Result<usiz
     if colon == s.len() || s[colon] != b':' {
         return Err(Refusal::KeyWithoutColon { line: site.line });
     }
-    let read = entry_value(s, skip_spaces(s, colon + 1), site, writer)?;
-    Ok(read.next)
+    entry_value(s, skip_spaces(s, colon + 1), site, writer)
 }
 
 // The entries behind a `{`, and the place behind the `}` that closes them. Their keys are not compared. Where an entry is refused, the writer
@@ -153,8 +171,7 @@ fn entry(s: &[u8], i: usize, site: Site, writer: &mut Writer<'_>) -> Result<usiz
 #[tactic(auto, using(crate::proofs::Invariants::maps))]
 #[cycle(reading)]
 fn entries(s: &[u8], start: usize, site: Site, writer: &mut Writer<'_>) -> Result<usize, Refusal>
-    requires in_range { start ≤ length s.now }
-    requires short { length s.now ≤ 65535 }
+    requires { start ≤ length s.now }
     ensures { ReadsEntries (flow_entries (cap_of writer.old) site.line site.levels writer.old.used (drop start s.now)) site.line
         s.now writer.old writer.new result }
 {
@@ -184,8 +201,7 @@ fn entries(s: &[u8], start: usize, site: Site, writer: &mut Writer<'_>) -> Resul
 #[tactic(auto, using(crate::proofs::Invariants::mappings))]
 #[cycle(reading)]
 fn mapping(s: &[u8], start: usize, site: Site, writer: &mut Writer<'_>) -> Result<usize, Refusal>
-    requires in_range { start ≤ length s.now }
-    requires short { length s.now ≤ 65535 }
+    requires { start ≤ length s.now }
     ensures { Reads encode (flow_entries (cap_of writer.old) site.line site.levels writer.old.used (drop start s.now))
         s.now writer.old writer.new result }
 {
@@ -203,18 +219,11 @@ fn mapping(s: &[u8], start: usize, site: Site, writer: &mut Writer<'_>) -> Resul
 fn collection(s: &[u8], i: usize, site: Site, writer: &mut Writer<'_>) -> Result<Parsed, Refusal>
     requires in_range { i < length s.now }
     requires bracket { (get_or s.now i 0 ≡ 123) ⊎ (get_or s.now i 0 ≡ 91) }
-    requires short { length s.now ≤ 65535 }
     ensures { (in_flow : Bool) (role : Roles) → ReadsValue role
         (definition.value (cap_of writer.old) site.line site.levels in_flow role writer.old.used (drop i s.now))
         s.now writer.old writer.new result }
 {
-    if site.levels == 0 {
-        return Err(Refusal::TooDeep { line: site.line });
-    }
-    let inside = Site {
-        levels: site.levels - 1,
-        line: site.line,
-    };
+    let inside = site.inside()?;
     let header = writer.begin()?;
     if s[i] == b'{' {
         let next = mapping(s, i + 1, inside, writer)?;
@@ -236,8 +245,7 @@ fn value(
     role: Role,
     writer: &mut Writer<'_>,
 ) -> Result<Parsed, Refusal>
-    requires in_range { i ≤ length s.now }
-    requires short { length s.now ≤ 65535 }
+    requires { i ≤ length s.now }
     ensures { ReadsValue role (definition.value (cap_of writer.old) site.line site.levels (is_in_flow stops) role writer.old.used
         (drop i s.now)) s.now writer.old writer.new result }
 {
@@ -290,8 +298,7 @@ impl<'a> Cursor<'a> {
         number: u32,
         writer: &mut Writer<'_>,
     ) -> Result<Parsed, Refusal>
-        requires in_range { self.at ≤ length self.line.now }
-        requires short { length self.line.now ≤ 65535 }
+        requires { self.at ≤ length self.line.now }
         ensures { ReadsValue role (definition.value (cap_of writer.old) number self.entry.levels (is_in_flow stops) role writer.old.used
             (drop self.entry.at self.entry.line.now)) self.entry.line.now writer.old writer.new result }
     {
@@ -312,7 +319,6 @@ pub fn flow(
     line: u32,
     writer: &mut Writer<'_>,
 ) -> Result<bool, Refusal>
-    requires { length s.now ≤ 65535 }
     ensures { ReadsWhole role (definition.flow (cap_of writer.old) line levels role writer.old.used s.now)
         writer.old writer.new result }
 {

@@ -1,7 +1,7 @@
 -- The decoder takes nothing but encodings: what it reads from bytes is what is written for the tree it gives. Assumes nothing.
 use Rattle.std.specs.Prelude.{if◌then◌else◌}
 use Rattle.std.proofs.Common.{◌≡◌, refl, sym, ap, ◌∙◌, subst, ℕ, zero, suc, ◌+◌, ◌-◌, ◌*◌, ◌/◌, ◌%◌, ◌^◌, ◌≤◌, ◌<◌, pow-suc, arith, List, [], ◌∷◌, ◌++◌, append_assoc, Bool, true, false, ◌&&◌, leb, ltb, eqb, length, take, drop, get_or, take-append-drop, length-drop, length-take-le, drop-drop, ℤ, pos, negsuc, leb-true, eqb-true}
-use Rattle.std.proofs.lemmas.Bool.{false≢true}
+use Rattle.std.proofs.lemmas.Bool.{and_parts}
 use Rattle.std.proofs.Math.Option.{Option, none, some, some-injective, none-ne-some}
 use Rattle.refusal.proofs.Tools.{chosen}
 use Rattle.item.specs.Tree.{Shape, Node, Yaml, null, Items, Entries}
@@ -25,14 +25,6 @@ pub got : {A B X : Type 0} (o : Option A) (f : A → Option B) (b : B) → (o >>
 unfolding ◌>>=◌
 got none f b e k = absurd (none-ne-some b e)
 got (some x) f b e k = k x refl e
-
-pub and_left : (a b : Bool) → a && b ≡ true → a ≡ true
-and_left true b e = refl
-and_left false b e = e
-
-pub and_right : (a b : Bool) → a && b ≡ true → b ≡ true
-and_right true b e = e
-and_right false b e = absurd (false≢true e)
 
 pub none≢ : {A X : Type 0} (a : A) → none ≡ some a → X
 none≢ a e = absurd (none-ne-some a e)
@@ -85,7 +77,7 @@ header-inv bs x h e = chosen (leb 6 (length bs) && leb (number (take 4 bs)) (len
     (λ _ r. none≢ x r)
   where
     both-leb : {a b c d : ℕ} → leb a b && leb c d ≡ true → (a ≤ b) × (c ≤ d)
-    both-leb {a} {b} {c} {d} t = (leb-true a b (and_left (leb a b) (leb c d) t), leb-true c d (and_right (leb a b) (leb c d) t))
+    both-leb {a} {b} {c} {d} t = let both = and_parts (leb a b) (leb c d) t in (leb-true a b both.0, leb-true c d both.1)
 
 -- a decoder that takes only what is written for what it gives
 pub record Written {s : Shape} (bs : List ℕ) (x : Node s × List ℕ) : Type 0 where

@@ -5,7 +5,6 @@ use Rattle.std.specs.Int.{to_le_bytes, w16, w32, w64}
 use Rattle.std.proofs.lemmas.List.Edits.{sets, sets-eq}
 use borrow.Rule.Slice.PartMut.{put_mid}
 use Rattle.std.proofs.Math.Nat.{div-div-eq-div-mul}
-use Rattle.std.proofs.Math.Numerals.{towards_suc}
 use Rattle.item.specs.Encode.{le}
 
 pub put_part : (l bs : List ℕ) (at k : ℕ) → k ≡ length bs → at + k ≤ length l → put_mid at k l bs ≡ sets l at bs
@@ -17,8 +16,8 @@ le_2 n = refl
 
 pub le_4 : (n : ℕ) → to_le_bytes w32 n ≡ le 4 n
 unfolding le
-le_4 n = simp (towards_suc, div-div-eq-div-mul)
+le_4 n = simp div-div-eq-div-mul
 
 pub le_8 : (n : ℕ) → to_le_bytes w64 n ≡ le 8 n
 unfolding le
-le_8 n = simp (towards_suc, div-div-eq-div-mul)
+le_8 n = simp div-div-eq-div-mul

@@ -1,8 +1,7 @@
 -- Byte strings that are the same, and their ends. Assumes nothing.
 use Rattle.std.proofs.Common.{◌≡◌, refl, sym, ap, subst, ℕ, ◌+◌, ◌≤◌, ◌<◌, arith, add-one, List, [], ◌∷◌, Bool, true, false, eqb, length, drop, get_or, drop_of_length-le, drop-cons, eq-eqb, eqb-true}
-use Rattle.std.proofs.lemmas.Bool.{false≢true}
+use Rattle.std.proofs.lemmas.Bool.{false≢true, and_parts}
 use Rattle.refusal.specs.Base.{same}
-use Rattle.item.proofs.Exact.{and_left, and_right}
 
 pub same_refl : (a : List ℕ) → same a a ≡ true
 unfolding same
@@ -15,7 +14,8 @@ same-eq [] [] e = refl
 same-eq [] (y ∷ b) e = absurd (false≢true e)
 same-eq (x ∷ a) [] e = absurd (false≢true e)
 same-eq (x ∷ a) (y ∷ b) e =
-    rw (eqb-true x y (and_left (eqb x y) (same a b) e), same-eq a b (and_right (eqb x y) (same a b) e))
+    let both = and_parts (eqb x y) (same a b) e in
+    rw (eqb-true x y both.0, same-eq a b both.1)
 
 pub same-ne : (a b : List ℕ) → (a ≡ b → ⊥) → same a b ≡ false
 same-ne a b n = go (same a b) refl

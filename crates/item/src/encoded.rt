@@ -5,6 +5,7 @@ ghost use Rattle.item.specs.Encode.{Bytes};
 use crate::Walk;
 
 /// Bytes of encoded items, at most `LIMIT` of them, so that each length fits its header. They may be any.
+// No equality, here and below: it would call `memcmp`, which no library does.
 #[derive(Clone, Copy, Debug)]
 pub struct Encoded<'a> {
     pub bytes: &'a [u8],

@@ -111,7 +111,8 @@ pub enum Found {
     Nothing,
 }
 
-/// Six bytes at `at`, for a content of `size` bytes. `kind` is a number, as a header can have any of 16 bits.
+/// Stores a header at `at`, six bytes, for a content of `size` bytes. `kind` is a number, as a header can have any of 16 bits.
+// A `usize`, since a narrower type would ask more of callers.
 pub fn put_header(out: &mut [u8], at: usize, kind: usize, size: usize)
     requires { (at + 6 ≤ length out.old) × (kind < 2 ^ 16) × (size < 2 ^ 32) }
     ensures { out.new ≡ sets out.old at (head kind size) }
@@ -120,7 +121,7 @@ pub fn put_header(out: &mut [u8], at: usize, kind: usize, size: usize)
     out[at + 4..at + HEADER].copy_from_slice(&(kind as u16).to_le_bytes());
 }
 
-/// Six bytes.
+/// Stores a null: six bytes.
 #[tactic(auto, using(crate::proofs::Laws::null_stored))]
 pub fn put_null(out: &mut [u8], at: usize)
     requires { at + 6 ≤ length out.old }
@@ -129,7 +130,7 @@ pub fn put_null(out: &mut [u8], at: usize)
     put_header(out, at, Kind::Null as usize, 0);
 }
 
-/// Seven bytes.
+/// Stores a boolean: seven bytes.
 #[tactic(auto, using(crate::proofs::Laws::bool_stored))]
 pub fn put_bool(out: &mut [u8], at: usize, value: bool)
     requires { at + 7 ≤ length out.old }
@@ -151,7 +152,7 @@ fn twos_complement(n: Integer) -> u64
     }
 }
 
-/// Fourteen bytes.
+/// Stores an integer: fourteen bytes.
 pub fn put_int(out: &mut [u8], at: usize, n: Integer)
     requires { at + 14 ≤ length out.old }
     ensures { out.new ≡ sets out.old at (encode (int (signed n.negative n.magnitude))) }
@@ -161,7 +162,8 @@ pub fn put_int(out: &mut [u8], at: usize, n: Integer)
 }
 
 /// All bytes of `s`, stored from `at` on.
-// A loop, since libraries call no `memcpy`.
+// A loop, since libraries call no `memcpy`; by index, since what is written through `iter_mut` beside a second iterator is not known
+// afterwards.
 pub fn copy(out: &mut [u8], at: usize, s: &[u8])
     requires { at + length s.now ≤ length out.old }
     ensures { out.new ≡ sets out.old at s.now }
@@ -171,7 +173,7 @@ pub fn copy(out: &mut [u8], at: usize, s: &[u8])
     }
 }
 
-/// Six bytes more than the string has.
+/// Stores a string: six bytes more than it has.
 #[tactic(auto, using(crate::proofs::Runs::sets_item), unfolding(crate::specs::Encode::encode))]
 pub fn put_string(out: &mut [u8], at: usize, s: &[u8])
     requires { (at + 6 + length s.now ≤ length out.old) × (length s.now < 2 ^ 32) }
@@ -181,6 +183,7 @@ pub fn put_string(out: &mut [u8], at: usize, s: &[u8])
     copy(out, at + HEADER, s);
 }
 
+// The content length of a header. A name for std's conversion, here and below: written out in `header_at`, it would be no plainer.
 #[tactic(auto, using(crate::proofs::HeaderPlaces::four_at))]
 fn size_at(s: &[u8], at: usize) -> usize
     requires { at + 4 ≤ length s.now }
@@ -189,12 +192,13 @@ fn size_at(s: &[u8], at: usize) -> usize
     u32::from_le_bytes([s[at], s[at + 1], s[at + 2], s[at + 3]]) as usize
 }
 
+// The kind.
 #[tactic(auto, using(crate::proofs::HeaderPlaces::two_at))]
 fn kind_at(s: &[u8], at: usize) -> usize
     requires { at + 2 ≤ length s.now }
     ensures { result ≡ number (take 2 (drop at s.now)) }
 {
-    u16::from_le_bytes([s[at], s[at + 1]]) as usize
+    usize::from(u16::from_le_bytes([s[at], s[at + 1]]))
 }
 
 /// The item that begins at `at`: any place of any bytes.

@@ -40,6 +40,7 @@ impl Placed for Item {
 }
 
 /// A walk over a part of some bytes, from `at` up to `to`. Where nothing can be read that is told, and it is the end.
+// No equality: it would call `memcmp`, which no library does.
 #[derive(Clone, Copy, Debug)]
 pub struct Walk<'a, T> {
     pub bytes: &'a [u8],

@@ -198,13 +198,13 @@ tab-on s n e z h =
 
 -- ---- the indentation, which is white space
 
-space-white : (s : List ℕ) → white_len (ch " " ∷ s) ≡ 1
+pub space-white : (s : List ℕ) → white_len (ch " " ∷ s) ≡ 1
 unfolding white_len white_at maybe white1 within
 space-white [] = refl
 space-white (b ∷ []) = refl
 space-white (b ∷ c ∷ s) = refl
 
-space-all : (s : List ℕ) → all_white (ch " " ∷ s) ≡ all_white s
+pub space-all : (s : List ℕ) → all_white (ch " " ∷ s) ≡ all_white s
 unfolding all_white trim_start leading leading_from white_at maybe white1 within
 space-all [] = refl
 space-all (b ∷ []) = refl

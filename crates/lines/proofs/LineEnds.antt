@@ -1,7 +1,8 @@
 -- Laws of where the lines of a text begin and end. Assumes nothing.
 use Rattle.std.specs.Prelude.{if◌then◌else◌}
-use Rattle.std.proofs.Common.{◌≡◌, refl, sym, ap, ◌∙◌, ℕ, zero, suc, ◌+◌, ◌-◌, ◌≤◌, ◌<◌, arith, List, [], ◌∷◌, Bool, true, false, ◌&&◌, eqb, length, take, drop, get_or, length-drop, drop-drop, get_or-drop, eq-eqb, ne_eqb}
+use Rattle.std.proofs.Common.{◌≡◌, refl, sym, ap, ◌∙◌, ℕ, suc, ◌+◌, ◌-◌, ◌≤◌, ◌<◌, arith, List, [], ◌∷◌, Bool, true, false, ◌&&◌, eqb, length, take, drop, get_or, length-drop, drop-drop, get_or-drop, eq-eqb, ne_eqb}
 use Rattle.std.proofs.Math.Bool.{false≢true}
+use Rattle.std.proofs.lemmas.Grind.{get_or_tail}
 use Rattle.refusal.specs.Base.{ch}
 use Rattle.item.specs.Encode.{flag}
 use Rattle.lines.specs.Lines.{begins_newline, prepend, split_lines}
@@ -105,10 +106,6 @@ returned-none (b ∷ bs) e = go (eqb b (ch "\n")) (eqb b (ch "\r")) (begins_newl
     go false true false q p h = h (omega arith)
     go false false n q p h = h (omega arith)
 
-get_or-behind : (b : ℕ) (l : List ℕ) (k : ℕ) → 0 < k → get_or (b ∷ l) k 0 ≡ get_or l (k - 1) 0
-get_or-behind b l zero h = absurd (omega arith)
-get_or-behind b l (suc k) h = ap (λ (i : ℕ). get_or l i 0) (let e : k ≡ suc k - 1 = omega arith in e)
-
 returned-at : (s : List ℕ) → 0 < until_newline s → until_newline s < length s → returned s ≡ eqb (get_or s (until_newline s - 1) 0) (ch "\r")
 unfolding returned until_newline begins_newline
 returned-at [] h k = absurd (omega arith)
@@ -137,7 +134,7 @@ returned-at (b ∷ c ∷ cs) h k = go (eqb b (ch "\n")) (eqb b (ch "\r")) (eqb c
     go false r false p q h k e =
         let z : u ≡ suc (until_newline cs) = rw q in
         let d : suc u - 1 ≡ u = omega arith in
-        none r ∙ e (omega arith) (omega arith) ∙ ap (λ (x : ℕ). eqb x (ch "\r")) (sym (ap (λ (i : ℕ). get_or (b ∷ c ∷ cs) i 0) d ∙ get_or-behind b (c ∷ cs) u (omega arith)))
+        none r ∙ e (omega arith) (omega arith) ∙ ap (λ (x : ℕ). eqb x (ch "\r")) (sym (ap (λ (i : ℕ). get_or (b ∷ c ∷ cs) i 0) d ∙ get_or_tail b (c ∷ cs) u 0 (omega arith)))
       where
         none : (r : Bool) → (if r && false then true else returned (c ∷ cs)) ≡ returned (c ∷ cs)
         none true = refl

@@ -1,6 +1,6 @@
 -- What a line of the text gives, by its places. Assumes nothing.
 use Rattle.std.specs.Prelude.{if◌then◌else◌}
-use Rattle.std.proofs.Common.{◌≡◌, refl, sym, ap, ◌∙◌, ℕ, suc, ◌+◌, ◌-◌, ◌≤◌, ◌<◌, add-one, arith, List, [], ◌∷◌, ◌++◌, append_assoc, append-nil, Bool, true, false, eqb, ltb, length, take, drop, drop_of_length-le, eqb-true}
+use Rattle.std.proofs.Common.{◌≡◌, refl, sym, ap, ◌∙◌, ℕ, suc, ◌+◌, ◌≤◌, ◌<◌, add-one, arith, List, [], ◌∷◌, ◌++◌, append_assoc, append-nil, Bool, true, false, eqb, ltb, length, take, drop, drop_of_length-le, eqb-true}
 use Rattle.std.proofs.lemmas.Bool.{eqb-false}
 use Rattle.lines.specs.declared.Row.{Row}
 use Rattle.refusal.specs.Base.{Answer, good, refused, ◌>>=◌, bytes, same, ends_with, empty}
@@ -14,7 +14,7 @@ use Rattle.lines.specs.declared.Literal.TheVariants.{Closed, Under}
 use Rattle.lines.specs.Lines.{Line, split_lines, significant_lines, indent_of, tabbed, strip_comment, significant, is_marker, opens_literal, literal_of, literal_after, Event, entry, bad, events_of, blanks_before, body_of, scan, collect}
 use Rattle.lines.specs.declared.Way.{Way}
 use Rattle.lines.specs.declared.Way.TheVariants.{Normal, Blank, Body}
-use Rattle.lines.specs.Raw.{RawAt, raw_text, way_of}
+use Rattle.lines.specs.Raw.{raw_text, way_of}
 use Rattle.lines.specs.declared.LineTaken.{LineTaken}
 use Rattle.lines.specs.Table.{row_of, line_of, table_lines, AllLieIn, behind}
 use Rattle.lines.specs.Filling.{rows_of, reading}
@@ -31,11 +31,11 @@ module _ (raw : RawLine) where
   abbrev inner : List ℕ
   inner = part raw.text.now raw.start raw.to
 
+  inside : raw.to ≤ length text
+  inside = omega (arith, raw.high, raw.inside)
+
   behind-indent : drop (indent_of whole) whole ≡ inner
   behind-indent = part-drop text raw.from raw.to (indent_of whole) ∙ ap (λ (k : ℕ). part text k raw.to) (sym raw.starts)
-
-  pub raw-indent : indent_of whole ≡ raw.start - raw.from
-  raw-indent = omega (arith, raw.starts)
 
   pub raw_tab : tabbed inner ≡ tabbed whole
   raw_tab = ap tabbed (sym behind-indent) ∙ indent-tab whole
@@ -47,15 +47,15 @@ module _ (raw : RawLine) where
   raw_blank e p = go (eqb e raw.to) refl ∙ raw-white
     where
       go : (x : Bool) → eqb e raw.to ≡ x → x ≡ all_white inner
-      go true q = sym (part-white text raw.start raw.to raw.low raw.high (sym p ∙ eqb-true e raw.to q))
-      go false q = sym (part-not-white text raw.start raw.to raw.low raw.high (λ h. eqb-false e raw.to q (p ∙ h)))
+      go true q = sym (part-white text raw.start raw.to raw.low inside (sym p ∙ eqb-true e raw.to q))
+      go false q = sym (part-not-white text raw.start raw.to raw.low inside (λ h. eqb-false e raw.to q (p ∙ h)))
 
   -- what is left of it, read normally, by its places
-  pub raw-significant : (c e : ℕ) → c ≡ raw.start + length (strip_comment inner) → c ≤ raw.to → e ≡ raw.start + length (trim_end (part text raw.start c))
+  pub raw_significant : (c e : ℕ) → c ≡ raw.start + length (strip_comment inner) → c ≤ raw.to → e ≡ raw.start + length (trim_end (part text raw.start c))
       → significant whole ≡ part text raw.start e
   unfolding significant
-  raw-significant c e p h q =
-      let k : raw.to ≤ length text = raw.high in
+  raw_significant c e p h q =
+      let k : raw.to ≤ length text = inside in
       let cut : strip_comment inner ≡ part text raw.start c = strip-take inner ∙ part-take text raw.start raw.to (length (strip_comment inner)) (omega arith) ∙ ap (part text raw.start) (sym p) in
       rw (behind-indent, cut) (end-part text raw.start c (omega arith) (omega arith) ∙ ap (part text raw.start) (sym q))
 
@@ -87,18 +87,18 @@ module _ (raw : RawLine) where
       unfolding events_of
       is-marked m = rw (t, p, some, m)
 
-      pub is-entry : (i : ℕ) → i ≡ indent_of whole → is_marker (part text raw.start e) ≡ false → events_of raw.number whole ≡ entry (line_of text (row_of i raw.start e raw.number)) ∷ []
+      pub is-entry : (r : Row) → r ≡ row_of (indent_of whole) raw.start e raw.number → is_marker (part text raw.start e) ≡ false → events_of raw.number whole ≡ entry (line_of text r) ∷ []
       unfolding events_of
-      is-entry i q m = rw (t, p, some, m, q)
+      is-entry r q m = rw (t, p, some, m, q)
 
   -- ---- a body line, behind the blank lines that wait
 
-  pub is-body : (waiting i e : ℕ) → tabbed whole ≡ false → i ≡ indent_of whole → e ≡ raw.start + length (trim_end inner) → (es : List Event)
-      → body_of waiting raw.number whole ++ es ≡ blanks_before waiting raw.number i ++ entry (line_of text (row_of i raw.start e raw.number)) ∷ es
+  pub is-body : (waiting e : ℕ) → tabbed whole ≡ false → e ≡ raw.start + length (trim_end inner) → (es : List Event)
+      → body_of waiting raw.number whole ++ es ≡ blanks_before waiting raw.number (indent_of whole) ++ entry (line_of text (row_of (indent_of whole) raw.start e raw.number)) ∷ es
   unfolding body_of
-  is-body waiting i e t q p es =
-      let cut : trim_end inner ≡ part text raw.start e = end-part text raw.start raw.to raw.low raw.high ∙ ap (part text raw.start) (sym p) in
-      rw (t, behind-indent, cut, q, append_assoc)
+  is-body waiting e t p es =
+      let cut : trim_end inner ≡ part text raw.start e = end-part text raw.start raw.to raw.low inside ∙ ap (part text raw.start) (sym p) in
+      rw (t, behind-indent, cut, append_assoc)
 
 -- ---- which of these a line is
 
@@ -172,8 +172,3 @@ pub record Scanned (text : List ℕ) (table : Table) (at number : ℕ) (taken : 
   pub waits : taken.waiting < number
   pub lines : significant_lines text ≡ reading text table (scan taken.literal taken.waiting number (split_lines (drop at text)))
   pub placed : AllLieIn text (rows_of table)
-
--- the line at `at`, as the first of those to be read
-pub next-line : (text : List ℕ) (table : Table) (at newline number : ℕ) (taken : LineTaken) (raw : RawLine) → RawAt text at newline number raw → Scanned text table at number taken
-    → significant_lines text ≡ reading text table (scan taken.literal taken.waiting raw.number (raw_text raw ∷ split_lines (drop (newline + 1) text)))
-next-line text table at newline number taken raw r v = v.lines ∙ rw (r.splits, r.number')

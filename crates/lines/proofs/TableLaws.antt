@@ -7,7 +7,7 @@ use Rattle.std.proofs.Common.{◌≡◌, refl, sym, ap, ◌∙◌, ℕ, zero, su
 use Rattle.refusal.specs.Base.{Answer, good, refused, ◌>>=◌}
 use Rattle.lines.specs.declared.Row.{Row}
 use Rattle.lines.specs.declared.Table.{Table}
-use Rattle.lines.specs.Lines.{Line, Event, entry, bad, collect, blanks_before}
+use Rattle.lines.specs.Lines.{Line, line, Event, entry, bad, collect, blanks_before}
 use Rattle.lines.specs.Table.{row_of, line_of, table_lines, LiesIn, AllLieIn, behind}
 use Rattle.lines.specs.Filling.{reading, Took, Takes}
 
@@ -74,9 +74,21 @@ unfolding collect
 collect-full zero l es e = refl
 collect-full (suc room) l es e = absurd (omega arith)
 
--- the first of the blank lines that wait, by its row
-pub first-blank : (text : List ℕ) (n i w : ℕ) → 0 < w → (es : List Event)
-    → blanks_before w n i ++ es ≡ entry (line_of text (row_of i 0 0 (n - w))) ∷ blanks_before (w - 1) n i ++ es
+-- ---- blank lines that wait
+
+blanks-more : (n i w : ℕ) → 0 < w → (es : List Event) → blanks_before w n i ++ es ≡ entry (line i [] (n - w)) ∷ blanks_before (w - 1) n i ++ es
 unfolding blanks_before
-first-blank text n i zero l es = absurd (omega arith)
-first-blank text n i (suc w) l es = let e : suc w - 1 ≡ w = omega arith in rw e
+blanks-more n i zero l es = absurd (omega arith)
+blanks-more n i (suc w) l es = let e : suc w - 1 ≡ w = omega arith in rw e
+
+-- those before `k` are taken, and the row of this one is pushed
+pub takes-blank : (text : List ℕ) (t u v : Table) (w n i k : ℕ) (r : Result (Unit {0}) Refusal) → k < n
+    → ((es : List Event) → Took text t u (blanks_before w n i ++ es) (blanks_before (n - k) n i ++ es))
+    → ((text : List ℕ) (es : List Event) → LiesIn text (row_of i 0 0 k) → Takes text u v (entry (line_of text (row_of i 0 0 k)) ∷ es) (λ x. es) r)
+    → (es : List Event) → Takes text t v (blanks_before w n i ++ es) (λ x. blanks_before (n - (k + 1)) n i ++ es) r
+takes-blank text t u v w n i k r h f g es =
+    let left : List Event = blanks_before (n - (k + 1)) n i ++ es in
+    let z : n - (n - k) ≡ k = omega arith in
+    let y : n - k - 1 ≡ n - (k + 1) = omega arith in
+    let first : blanks_before (n - k) n i ++ es ≡ entry (line i [] k) ∷ left = blanks-more n i (n - k) (omega arith) es ∙ rw (z, y) in
+    takes-both text t u v (blanks_before w n i ++ es) (entry (line i [] k) ∷ left) (λ x. left) r (rw first at (f es)) (g text left (record { ordered = omega arith; inside = omega arith }))

@@ -1,6 +1,6 @@
 -- Section 1 of document 01, for the contracts inside the crate: a line of the text, by its places. Uses Part and White of `utf8`; Lines of
 -- this crate. Assumes nothing.
-use Rattle.std.specs.Prelude.{◌≡◌, ℕ, ◌+◌, List, ◌∷◌, ltb, drop, if◌then◌else◌}
+use Rattle.std.specs.Prelude.{ℕ, List, ltb, if◌then◌else◌}
 use Rattle.utf8.specs.Part.{part}
 use Rattle.utf8.specs.White.{all_white}
 use Rattle.lines.specs.declared.RawLine.{RawLine}
@@ -8,7 +8,7 @@ use Rattle.lines.specs.declared.Literal.{Literal}
 use Rattle.lines.specs.declared.Literal.TheVariants.{Closed, Under}
 use Rattle.lines.specs.declared.Way.{Way}
 use Rattle.lines.specs.declared.Way.TheVariants.{Normal, Blank, Body}
-use Rattle.lines.specs.Lines.{split_lines, indent_of}
+use Rattle.lines.specs.Lines.{indent_of}
 
 abbrev pub raw_text : RawLine → List ℕ
 raw_text raw = part raw.text.now raw.from raw.to
@@ -20,9 +20,3 @@ way_of (Under at) raw =
     if all_white raw then Blank at
     else if ltb at (indent_of raw) then Body at
     else Normal
-
--- the line that starts at `at`: it is the first of those from there on, and the others begin behind `newline`
-pub record RawAt (text : List ℕ) (at newline number : ℕ) (raw : RawLine) : Type 0 where
-  pub is : raw.text.now ≡ text
-  pub number' : raw.number ≡ number
-  pub splits : split_lines (drop at text) ≡ raw_text raw ∷ split_lines (drop (newline + 1) text)

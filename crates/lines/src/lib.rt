@@ -5,7 +5,7 @@ ghost use Rattle.std.specs.Prelude.{◌≡◌, true, false, List, [], ◌∷◌,
 ghost use Rattle.refusal.specs.Told.{refusal};
 ghost use Rattle.utf8.specs.Part.{part};
 ghost use Rattle.utf8.specs.White.{all_white};
-ghost use Rattle.lines.specs.Lines.{indent_of, tabbed, after_plain, place_after, starts_comment, strip_comment, is_marker, opens_literal, significant_lines};
+ghost use Rattle.lines.specs.Lines.{split_lines, indent_of, tabbed, after_plain, place_after, starts_comment, strip_comment, significant, is_marker, opens_literal, significant_lines};
 ghost use Rattle.lines.specs.Lines.{literal_of, most_lines};
 ghost use Rattle.lines.specs.Dash as definition;
 ghost use Rattle.lines.specs.Dash.{is_dash};
@@ -59,19 +59,22 @@ impl Row {
     };
 }
 
-// A line of the text: its places in it, without the newline and a carriage return before that, and its number from 1. Its indentation ends at
-// `start`.
+// A line of the text, by its places: where it begins, where its indentation ends, where it ends, and where its newline stands, or else the text
+// ends. A carriage return before the newline is no part of it. Its number is from 1.
 #[derive(Clone, Copy)]
 struct RawLine<'a> {
     text: &'a [u8],
     from: usize,
     start: usize,
     to: usize,
+    newline: usize,
     number: usize,
     ghost short: { length text.now ≤ 65535 },
     ghost starts: { start ≡ from + indent_of (part text.now from to) },
     ghost low: { start ≤ to },
-    ghost high: { to ≤ length text.now },
+    ghost high: { to ≤ newline },
+    ghost inside: { newline ≤ length text.now },
+    ghost splits: { split_lines (drop from text.now) ≡ part text.now from to ∷ split_lines (drop (newline + 1) text.now) },
     ghost some: { 0 < number },
     ghost few: { number ≤ 65535 },
 }
@@ -100,8 +103,8 @@ enum Way {
     Body(usize),
 }
 
-// Below, a part of the text goes by its places: rows and the trimming name places of the whole text, and a struct of them would be made anew
-// of two places at hand for each call.
+// Below, a part of the text goes by its places, and is no slice: rows name places of the whole text, and what trims and searches takes two
+// places and answers one, so that of a slice each call would take 0 and its length.
 
 // Whether one of eight bytes is `b`: with no branch between them, they are looked at together.
 fn in_eight(text: &[u8], i: usize, b: u8) -> bool
@@ -118,8 +121,8 @@ fn in_eight(text: &[u8], i: usize, b: u8) -> bool
         | (text[i + 7] == b)
 }
 
-// A place up to which a part has no `b`: eight bytes at a time, in nine instructions, where byte by byte takes five for each. A `while`, since the
-// place is what is answered: beside `chunks_exact` it would be counted by hand.
+// A place up to which a part has no `b`: eight bytes at a time, in nine instructions, where byte by byte takes five for each. A `while`: to count
+// those of `chunks_exact` that pass by `take_while` took eight instructions more for each line.
 fn skip_eights(text: &[u8], from: usize, to: usize, b: u8) -> usize
     requires { (from ≤ to) × (to ≤ length text.now) }
     ensures { (from ≤ result) × (result ≤ to) × Lacks text.now from result b }
@@ -288,35 +291,25 @@ fn literal_after(t: &[u8], indent: usize) -> Literal
     }
 }
 
-// The row of a line of a text, which is short.
-fn make_row(indent: usize, start: usize, end: usize, number: usize) -> Row
-    requires { (indent < 2 ^ 16) × (start < 2 ^ 16) × (end < 2 ^ 16) × (number < 2 ^ 16) }
-    ensures { result ≡ row_of indent start end number }
-{
-    Row {
-        indent: indent as u16,
-        start: start as u16,
-        end: end as u16,
-        number: number as u16,
-    }
-}
-
 impl<'a> RawLine<'a> {
-    ghost use Rattle.lines.specs.Raw.{raw_text, way_of, RawAt};
+    ghost use Rattle.lines.specs.Table.{LiesIn};
+    ghost use Rattle.lines.specs.Raw.{raw_text, way_of};
 
-    // The line that starts at `at`.
-    fn at(text: &'a [u8], at: usize, newline: usize, number: usize) -> RawLine<'a>
-        requires place { (at < length text.now) × (newline ≡ at + until_newline (drop at text.now)) × (newline ≤ length text.now) }
+    // The line that starts at `from`.
+    fn at(text: &'a [u8], from: usize, number: usize) -> RawLine<'a>
+        requires place { from < length text.now }
         requires short { length text.now ≤ 65535 }
         requires numbered { (0 < number) × (number ≤ 65535) }
-        ensures { RawAt text.now at newline number result }
+        ensures { (result.text.now ≡ text.now) × (result.from ≡ from) × (result.number ≡ number) }
     {
-        let to = line_end(text, at, newline);
+        let newline = newline_at(text, from);
+        let to = line_end(text, from, newline);
         RawLine {
             text,
-            from: at,
-            start: indent_end(text, at, to),
+            from,
+            start: indent_end(text, from, to),
             to,
+            newline,
             number,
         }
     }
@@ -365,6 +358,30 @@ impl<'a> RawLine<'a> {
         }
         Way::Normal
     }
+
+    // Where what is left of it ends, if it is read normally.
+    #[tactic(auto, using(crate::proofs::ScanLaws::raw_significant))]
+    fn significant_end(self) -> usize
+        ensures left { significant (raw_text self.entry) ≡ part self.entry.text.now self.entry.start result }
+        ensures place { (self.entry.start ≤ result) × (result ≤ self.entry.to) }
+    {
+        let comment = comment_at(self.text, self.start, self.to);
+        trim_end(self.text, self.start, comment)
+    }
+
+    // Its row, with its text up to `end`. No text is so long that a number is cut off.
+    fn row(self, end: usize) -> Row
+        requires { (self.start ≤ end) × (end ≤ self.to) }
+        ensures is { result ≡ row_of (indent_of (raw_text self.entry)) self.entry.start end self.entry.number }
+        ensures lies { LiesIn self.entry.text.now result }
+    {
+        Row {
+            indent: self.indent() as u16,
+            start: self.start as u16,
+            end: end as u16,
+            number: self.number as u16,
+        }
+    }
 }
 
 impl<'a> Table<'a> {
@@ -401,14 +418,18 @@ impl Table<'_> {
         Ok(())
     }
 
-    // The blank lines that wait before line `number`.
-    fn push_blanks(&mut self, waiting: usize, indent: usize, number: usize) -> Result<(), Refusal>
-        requires { (waiting ≤ number) × (indent < 2 ^ 16) × (number < 2 ^ 16) }
-        ensures { (text : List ℕ) (es : List Event)
-            → Takes text self.old self.new (blanks_before waiting number indent ++ es) (λ _. es) result }
+    // The blank lines that wait before a line, with its indentation.
+    fn push_blanks(&mut self, line: RawLine<'_>, waiting: usize) -> Result<(), Refusal>
+        requires { waiting ≤ line.number }
+        ensures { (es : List Event)
+            → Takes line.entry.text.now self.old self.new (blanks_before waiting line.entry.number (indent_of (raw_text line.entry)) ++ es) (λ _. es) result }
     {
-        for blank in number - waiting..number {
-            self.push(make_row(indent, 0, 0, blank))?;
+        for number in line.number - waiting..line.number {
+            self.push(Row {
+                indent: line.indent() as u16,
+                number: number as u16,
+                ..Row::EMPTY
+            })?;
         }
         Ok(())
     }
@@ -420,21 +441,18 @@ impl Table<'_> {
             → Takes line.entry.text.now self.old self.new (events_of line.entry.number (raw_text line.entry) ++ es) (λ _. es) result }
         ensures open { IfOk result (λ literal. literal ≡ literal_after (raw_text line.entry)) }
     {
-        let text = line.text;
-        let start = line.start;
-        let end = trim_end(text, start, comment_at(text, start, line.to));
-        if end == start {
+        let end = line.significant_end();
+        if end == line.start {
             return Ok(Literal::Closed);
         }
-        let significant = &text[start..end];
+        let significant = &line.text[line.start..end];
         if is_marker(significant) {
             return Err(Refusal::DocumentMarker {
                 line: line.number as u32,
             });
         }
-        let indent = line.indent();
-        self.push(make_row(indent, start, end, line.number))?;
-        Ok(literal_after(significant, indent))
+        self.push(line.row(end))?;
+        Ok(literal_after(significant, line.indent()))
     }
 
     // A body line of the literal that is open, behind the blank lines that wait.
@@ -444,10 +462,8 @@ impl Table<'_> {
         ensures { (es : List Event)
             → Takes line.entry.text.now self.old self.new (body_of waiting line.entry.number (raw_text line.entry) ++ es) (λ _. es) result }
     {
-        let indent = line.indent();
-        self.push_blanks(waiting, indent, line.number)?;
-        let end = trim_end(line.text, line.start, line.to);
-        self.push(make_row(indent, line.start, end, line.number))
+        self.push_blanks(line, waiting)?;
+        self.push(line.row(trim_end(line.text, line.start, line.to)))
     }
 
     // A tab in its leading white space stops any line but a blank one of a literal. It is asked for here once: asked for in the two functions
@@ -497,10 +513,9 @@ pub fn read_lines(text: &[u8], rows: &mut [Row; MOST_LINES]) -> Result<usize, Re
         waiting: 0,
     };
     while at < text.len() {
-        let newline = newline_at(text, at);
-        let line = RawLine::at(text, at, newline, number);
+        let line = RawLine::at(text, at, number);
         taken = table.read_line(line, taken)?;
-        at = newline + 1;
+        at = line.newline + 1;
         number += 1;
     }
     Ok(table.count)

@@ -36,9 +36,9 @@ module _ (ls : List Line) (cap : ℕ) (strip : Bool) (under sum : ℕ) where
     unfolding literal literal_under
     literal-beside k = rw (lines_next ls i h, le-ltb under (line_at ls i).indent k, nothing-kept strip)
 
-    pub literal_under_lem : (indent : ℕ) → indent ≡ (line_at ls i).indent → under < indent → literal cap strip under sum (drop i ls) ≡ whole cap strip sum (literal_lines indent (drop i ls))
+    pub literal_under_lem : under < (line_at ls i).indent → literal cap strip under sum (drop i ls) ≡ whole cap strip sum (literal_lines (line_at ls i).indent (drop i ls))
     unfolding literal literal_under
-    literal_under_lem indent e k = rw (e, lines_next ls i h, lt-ltb under (line_at ls i).indent (omega arith))
+    literal_under_lem k = rw (lines_next ls i h, lt-ltb under (line_at ls i).indent k)
 
 -- ---- the literal below a key
 

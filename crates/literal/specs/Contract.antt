@@ -1,6 +1,6 @@
 -- For contracts: what the readers of lines promise. Uses Base of `refusal`; Tree and Encode of `item`; Writing of `writer`; Lines of `lines`;
 -- Contract of `scalar`; Literal of this crate. Assumes nothing.
-use Rattle.std.specs.Prelude.{◌≡◌, ℕ, ◌≤◌, List, length, drop, Result, Ok, Err}
+use Rattle.std.specs.Prelude.{◌≡◌, ℕ, ◌≤◌, Bool, true, false, List, length, drop, Result, Ok, Err}
 use Rattle.refusal.specs.Base.{good}
 use Rattle.refusal.specs.declared.Refusal.{Refusal}
 use Rattle.item.specs.Tree.{Shape, Node}
@@ -9,7 +9,14 @@ use Rattle.writer.specs.declared.Writer.{Writer}
 use Rattle.writer.specs.Writing.{Appends}
 use Rattle.lines.specs.Lines.{Line}
 use Rattle.scalar.specs.Contract.{Refuses}
+use Rattle.literal.specs.declared.Chomping.{Chomping}
+use Rattle.literal.specs.declared.Chomping.TheVariants.{Clip, Strip}
 use Rattle.literal.specs.Literal.{Read}
+
+-- whether all newlines at the end are dropped
+abbrev pub strips : Chomping → Bool
+strips Clip = false
+strips Strip = true
 
 -- a value, or the entries of a mapping, read from the line `i` of `ls` up to the line `next`, and written behind what was written before
 pub record WroteBlock {s : Shape} (answer : Read (Node s)) (ls : List Line) (i : ℕ) (old new : Writer) (next : ℕ) : Type 0 where

@@ -1,5 +1,5 @@
 -- Section 3 of document 01, for the contracts inside the crate: what the walks over the lines of a literal ask and promise. Uses Tree
--- of `item`; Lines and Table of `lines`; Literal of this crate. Assumes nothing.
+-- of `item`; Lines of `lines`; Literal of this crate. Assumes nothing.
 use Rattle.std.specs.Prelude.{◌≡◌, ℕ, ◌*◌, ◌≤◌, List, Bool, eqb, length, drop, if◌then◌else◌}
 use Rattle.item.specs.Tree.{Yaml, str}
 use Rattle.lines.specs.Lines.{Line, most_lines}

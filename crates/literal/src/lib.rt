@@ -8,13 +8,20 @@ ghost use Rattle.writer.specs.Writing.{cap_of, Appends};
 ghost use Rattle.lines.specs.Table.{line_at};
 ghost use Rattle.lines.specs.Ready.{AreLines};
 ghost use Rattle.literal.specs.Literal as definition;
-ghost use Rattle.literal.specs.Contract.{ReadsLines, ReadsPart};
+ghost use Rattle.literal.specs.Contract.{strips, ReadsLines, ReadsPart};
 ghost use Rattle.literal.specs.Walk.{extra_spaces, body_from, Extent, whole};
 
 use item::{HEADER, Kind};
 use lines::Lines;
 use refusal::Refusal;
 use writer::Writer;
+
+/// What becomes of the newlines at a literal's end: `|` leaves one there, and `|-` none.
+#[derive(Clone, Copy, Debug, PartialEq, Eq)]
+pub enum Chomping {
+    Clip,
+    Strip,
+}
 
 /// The body of a literal: the first line behind it, and how many bytes its lines give.
 #[derive(Clone, Copy, Debug, PartialEq, Eq)]
@@ -35,8 +42,8 @@ fn extra_spaces(size: usize, deeper: usize) -> usize
     deeper
 }
 
-// The lines from `first` on that are indented by at least `indent`. By their numbers, here and in `put_lines`: the number of the first line
-// behind them is what is answered.
+// The lines from `first` on that are indented by at least `indent`. By their numbers, here and in `put_lines`: lines are asked for by number, and
+// that of the first behind them is what is answered.
 #[tactic(auto, using(crate::proofs::Laws::counts))]
 fn extent(lines: &Lines<'_>, first: usize, indent: usize) -> Body
     requires { first ≤ length lines.now }
@@ -89,16 +96,15 @@ fn put_lines(lines: &Lines<'_>, first: usize, indent: usize, to: usize, writer: 
     }
 }
 
-// How many of a literal's bytes are kept: `|-` drops the newline behind its last line, which is never blank. Whether it strips is a bool, as
-// the definitions have it.
-fn kept_len(len: usize, strip: bool) -> usize
+// How many of a literal's bytes are kept: its last line is never blank, so one newline is all that there is to drop.
+fn kept_len(len: usize, chomping: Chomping) -> usize
     requires { 1 ≤ len }
-    ensures { result ≡ (if strip then len - 1 else len) }
+    ensures { result ≡ (if strips chomping then len - 1 else len) }
 {
-    if strip {
-        return len - 1;
+    match chomping {
+        Chomping::Clip => len,
+        Chomping::Strip => len - 1,
     }
-    len
 }
 
 // The literal of which line `i` is the first, and the first line behind it.
@@ -106,18 +112,17 @@ fn kept_len(len: usize, strip: bool) -> usize
 fn put_literal(
     lines: &Lines<'_>,
     i: usize,
-    indent: usize,
-    strip: bool,
+    chomping: Chomping,
     writer: &mut Writer<'_>,
 ) -> Result<usize, Refusal>
     requires lines { AreLines lines.now }
     requires line { i < length lines.now }
-    requires indent { indent ≡ (line_at lines.now i).indent }
-    ensures { ReadsLines (λ ls. whole (cap_of writer.old) strip writer.old.used (definition.literal_lines indent ls))
+    ensures { ReadsLines (λ ls. whole (cap_of writer.old) (strips chomping) writer.old.used (definition.literal_lines (line_at lines.now i).indent ls))
         lines.now i writer.old writer.new result }
 {
+    let indent = lines.indent(i);
     let body = extent(lines, i, indent);
-    let len = kept_len(body.len, strip);
+    let len = kept_len(body.len, chomping);
     writer.reserve(HEADER + len)?;
     writer.header(Kind::Str, len);
     let to = writer.used() + len;
@@ -135,23 +140,20 @@ fn put_empty(i: usize, writer: &mut Writer<'_>) -> Result<usize, Refusal>
     Ok(i)
 }
 
-/// The literal of a key that is indented by `under`, from line `i` on, and the first line behind it; `|-` strips.
+/// The literal of a key that is indented by `under`, from line `i` on, and the first line behind it.
 #[tactic(auto, using(crate::proofs::Whole::literals))]
 pub fn literal(
     lines: &Lines<'_>,
     i: usize,
     under: usize,
-    strip: bool,
+    chomping: Chomping,
     writer: &mut Writer<'_>,
 ) -> Result<usize, Refusal>
     requires { i ≤ length lines.now }
-    ensures { ReadsLines (definition.literal (cap_of writer.old) strip under writer.old.used) lines.now i writer.old writer.new result }
+    ensures { ReadsLines (definition.literal (cap_of writer.old) (strips chomping) under writer.old.used) lines.now i writer.old writer.new result }
 {
-    if i < lines.len() {
-        let indent = lines.indent(i);
-        if indent > under {
-            return put_literal(lines, i, indent, strip, writer);
-        }
+    if i < lines.len() && lines.indent(i) > under {
+        return put_literal(lines, i, chomping, writer);
     }
     put_empty(i, writer)
 }

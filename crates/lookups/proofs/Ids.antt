@@ -54,16 +54,6 @@ pub record Left (s id : List ℕ) (from to at : ℕ) (ss : List Step) : Type 0 w
   pub number : number_of id (suc before) rest ≡ number_of id 1 ss
   pub place : (i : ℕ) → part_at at (map step_item rest) i ≡ part_at from (map step_item ss) (before + i)
 
-pub ids-start : {s id : List ℕ} {from to : ℕ} (ss : List Step) → StepsLie s from to ss → Left s id from to from ss
-ids-start {from = from} ss h = record {
-  rest = ss;
-  lie = h;
-  before = 0;
-  count = omega arith;
-  number = refl;
-  place = λ i. let e : i ≡ 0 + i = omega arith in ap (part_at from (map step_item ss)) e;
-}
-
 pub ids_end : {s id : List ℕ} {from to at : ℕ} {ss : List Step} → Left s id from to at ss → to ≤ at → good nothing ≡ first_with id from ss
 unfolding number_of maybe
 ids_end {id = id} l h = sym (rw (sym l.number ∙ ap (number_of id (suc l.before)) (none_left l.rest h l.lie)))

@@ -2,7 +2,7 @@
 use Rattle.std.proofs.Common.{◌≡◌, refl, sym, ap, ◌∙◌, subst, ℕ, zero, suc, ◌+◌, ◌≤◌, ◌<◌, Bool, true, false, ltb, List, [], ◌∷◌, map, length, get_or, arith, ltb-false, ltb-true}
 use Rattle.std.proofs.Math.Option.{Option, none, some}
 use Rattle.refusal.specs.Base.{Answer, good, refused, ◌>>=◌, given, maybe, bytes, limit}
-use Rattle.refusal.proofs.Tools.{bound, gave, refused≢good, bind-cong}
+use Rattle.refusal.proofs.Tools.{bound, gave, refused≢good, refused-as, bind-cong}
 use Rattle.item.specs.Tree.{Yaml, Ranged}
 use Rattle.item.specs.Encode.{Bytes}
 use Rattle.entries.specs.Entries.{Stands}
@@ -22,10 +22,6 @@ use Rattle.lookups.specs.Lookups.{number_of, step_by_id, nth_step, numbered_step
 use Rattle.lookups.proofs.Places.{part-front, part-shift, nth-stands, nth-kept}
 use Rattle.lookups.proofs.Ids.{first_with}
 use Rattle.lookups.proofs.Values.{FoundValue, in-step-found}
-
--- a refusal is one of any answer
-refusal-as : {A B : Type 0} {n l s n' l' s' : ℕ} → ◌≡◌ {A = Answer A} (refused n l s) (refused n' l' s') → ◌≡◌ {A = Answer B} (refused n l s) (refused n' l' s')
-refusal-as {n = n} {l} {s} {n'} {l'} {s'} e = let x : n ≡ n' = cc e in let y : l ≡ l' = cc e in let z : s ≡ s' = cc e in rw (x, y, z)
 
 -- ---- all steps
 
@@ -129,11 +125,11 @@ module _ (b : List ℕ) (number : ℕ) where
     where
       inner : (a : Answer (ℕ × Step)) → refused n l s ≡ (a >>= g) → refused n l s ≡ (a >>= f)
       inner (good x) e = refused≢good _ _ _ _ (e ∙ (t x).1)
-      inner (refused i j k) e = refusal-as e
+      inner (refused i j k) e = refused-as e
 
       go : (o : Answer Meaning) → refused n l s ≡ (o >>= λ m. numbered_step m number >>= g) → refused n l s ≡ (o >>= λ m. numbered_step m number >>= f)
       go (good m) e = inner (numbered_step m number) e
-      go (refused i j k) e = refusal-as e
+      go (refused i j k) e = refused-as e
 
   pub value_refused : (key : List ℕ) {n l s : ℕ} → refused n l s ≡ job.step b number → refused n l s ≡ value_by_key b number key
   unfolding value_by_key

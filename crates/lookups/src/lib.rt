@@ -42,8 +42,11 @@ impl From<Result<u32, Refusal>> for TimesAnswer {
     }
 }
 
+// The bytes and the place stand apart here and below, and no node is taken: the definitions tell which item it is by its place, and `nth_item`
+// takes the two so. Each node would be made for one call.
+
 // Whether the step whose parts begin at `from` has this id, the second of them.
-#[tactic(auto, using(record::proofs::StepPlaces::nth_inside, crate::proofs::Ids::no_id))]
+#[tactic(auto, using(entries::proofs::Counting::nth_inside, crate::proofs::Ids::no_id))]
 fn has_id(s: Encoded<'_>, from: usize, id: &[u8]) -> bool
     ensures { (at : ℕ) (step : Step) → from ≡ at + 6 → Stands s.entry.bytes.now at (step_item step)
         → result ≡ has_id id.now step }
@@ -155,7 +158,7 @@ fn times_of(n: Integer, number: u32) -> Result<u32, Refusal>
     u32::try_from(n.magnitude).or(Err(Refusal::TimesTooLarge { step: number }))
 }
 
-// The same of the value at `at`.
+// The same of the value at `at`: what is no item and what is no integer are refused by the same words.
 fn times_at(s: Encoded<'_>, at: usize, number: u32) -> Result<u32, Refusal>
     ensures { (v : Yaml) → Ranged v → Stands s.entry.bytes.now at (encode v) → told_of result ≡ times_in number v }
 {

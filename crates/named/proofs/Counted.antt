@@ -2,10 +2,10 @@
 -- others. Assumes nothing.
 use Rattle.std.specs.Prelude.{if◌then◌else◌}
 use Rattle.std.proofs.Common.{◌≡◌, refl, sym, ◌∙◌, ℕ, ◌≤◌, Bool, true, false, ◌||◌, leb}
-use Rattle.std.proofs.lemmas.Bool.{false≢true}
+use Rattle.std.proofs.lemmas.Bool.{false≢true, or_parts}
 use Rattle.std.proofs.Math.Option.{Option, none, some}
 use Rattle.refusal.specs.Base.{Answer, good, refused, ◌>>=◌, ◌>>◌, given, ensure}
-use Rattle.refusal.proofs.Tools.{refused≢good, neither}
+use Rattle.refusal.proofs.Tools.{refused≢good}
 use Rattle.scalar.specs.Read.{charge}
 use Rattle.named.specs.Named.{lined, stepped}
 
@@ -32,13 +32,13 @@ refuses {A} k i j c n l s e =
 -- no line and no step
 pub plainly : {A : Type 0} {k : ℕ} → lined k || leb 61 k ≡ false → stepped k ≡ false → Counts {A = A} (refused k 0 0)
 plainly {k = k} p q =
-    let (p, o) = neither (lined k) (leb 61 k) p in
+    let (p, o) = or_parts (lined k) (leb 61 k) p in
     refuses k 0 0 (record { own = o; line = λ e. absurd (false≢true (sym p ∙ e)); step = λ e. absurd (false≢true (sym q ∙ e)) })
 
 -- a step
 pub stepwise : {A : Type 0} {k l s : ℕ} → lined k || leb 61 k ≡ false → 1 ≤ s → Counts {A = A} (refused k l s)
 stepwise {k = k} {l} {s} p h =
-    let (p, o) = neither (lined k) (leb 61 k) p in
+    let (p, o) = or_parts (lined k) (leb 61 k) p in
     refuses k l s (record { own = o; line = λ e. absurd (false≢true (sym p ∙ e)); step = λ _. h })
 
 pub binds : {A B : Type 0} {a : Answer A} {f : A → Answer B} → Counts a → ((x : A) → Counts (f x)) → Counts (a >>= f)

@@ -1,11 +1,12 @@
 -- Where the reading of a tree names a line, it counts from 1, and its numbers are document 01's: line by line, and so of the whole text. Assumes nothing.
 use Rattle.std.specs.Prelude.{if◌then◌else◌}
-use Rattle.std.proofs.Common.{◌≡◌, refl, sym, ◌∙◌, subst, ℕ, zero, suc, ◌≤◌, ◌<◌, min, ◌^◌, arith, List, [], ◌∷◌, ◌++◌, Bool, true, false, ◌&&◌, ◌||◌, not, eqb, ltb, leb, length, take, drop}
-use Rattle.std.proofs.lemmas.Bool.{false≢true}
+use Rattle.std.proofs.Common.{◌≡◌, refl, sym, ◌∙◌, subst, ℕ, zero, suc, ◌≤◌, ◌<◌, min, ◌^◌, arith, List, [], ◌∷◌, Bool, true, false, ◌&&◌, ◌||◌, not, eqb, ltb, leb, length, take, drop}
+use Rattle.std.proofs.lemmas.Bool.{false≢true, or_parts, cond_both}
+use Rattle.std.specs.List.{AllByRecursion as All}
 use Rattle.std.proofs.Math.Option.{Option, none, some}
 use Rattle.refusal.specs.Base.{Answer, good, refused, ◌>>=◌, ◌>>◌, maybe, given, bytes, same, empty, ch}
-use Rattle.refusal.proofs.Tools.{good-inj, refused≢good, bound, neither, both}
-use Rattle.utf8.specs.White.{trim, trim_start, trim_end, all_white}
+use Rattle.refusal.proofs.Tools.{good-inj, refused≢good, bound}
+use Rattle.utf8.specs.White.{trim, trim_start, all_white}
 use Rattle.utf8.specs.Utf8.{is_utf8}
 use Rattle.item.specs.Tree.{Yaml, null, str, Items, end, ◌◂◌, no_item, Entries, done, add, no_entry, has_key}
 use Rattle.lines.specs.declared.Literal.{Literal}
@@ -21,6 +22,7 @@ use Rattle.flow.specs.Flow.{stuck, item_turn, items, behind_colon, fresh, entry_
 use Rattle.literal.specs.Literal.{Read, leaf, literal_lines, literal_under, literal}
 use Rattle.block.specs.Block.{Inside, starts_complex, line_value, child, block_key, value_behind, entry_at, key_at, map_turn, map_lines, entries_of, block_map, inline_map, item_behind, seq_turn, seq_lines, items_of, block_seq, block_of, inline_of, inside_of, within, block}
 use Rattle.tree.specs.Tree.{admitted, nothing_left, tree_of, tree, size_of}
+use Rattle.tree.proofs.Parts.{all-append}
 use Rattle.named.specs.Named.{lined, stepped}
 use Rattle.named.proofs.Counted.{Counts, never, refuses, plainly, binds, next, ifs, givens, ensures, charges}
 
@@ -29,7 +31,7 @@ use Rattle.named.proofs.Counted.{Counts, never, refuses, plainly, binds, next, i
 module _ (cap n : ℕ) (counts : 1 ≤ n) where
   stops : {A : Type 0} {k : ℕ} → stepped k || leb 61 k ≡ false → Counts {A = A} (refused k n 0)
   stops {k = k} q =
-      let (q, o) = neither (stepped k) (leb 61 k) q in
+      let (q, o) = or_parts (stepped k) (leb 61 k) q in
       refuses k n 0 (record { own = o; line = λ _. counts; step = λ e. absurd (false≢true (sym q ∙ e)) })
 
   scalars : (role : Role) (sum : ℕ) (y : Yaml) (rest : List ℕ) → Counts (scalar cap n role sum y rest)
@@ -145,8 +147,7 @@ module _ (cap n : ℕ) (counts : 1 ≤ n) where
 -- ---- blocks: the lines that are left count from 1 too
 
 abbrev pub Numbered : List Line → Type 0
-Numbered [] = Unit {0}
-Numbered (l ∷ ls) = (1 ≤ l.number) × Numbered ls
+Numbered ls = All (λ l. 1 ≤ l.number) ls
 
 record Reads {A : Type 0} (a : Read A) : Type 0 where
   refusals : Counts a
@@ -188,12 +189,12 @@ module _ (cap : ℕ) where
   bodies : (d : ℕ) (ls : List Line) → Numbered ls → Numbered (literal_lines d ls).1
   unfolding literal_lines
   bodies d [] h = tt
-  bodies d (l ∷ ls) h = both (λ (x : List ℕ × List Line). Numbered x.1) (leb d l.indent) _ _ (bodies d ls h.1) h
+  bodies d (l ∷ ls) h = cond_both (leb d l.indent) _ _ (λ (x : List ℕ × List Line). Numbered x.1) (λ _. bodies d ls h.1) (λ _. h)
 
   unders : (d : ℕ) (ls : List Line) → Numbered ls → Numbered (literal_under d ls).1
   unfolding literal_under
   unders d [] h = tt
-  unders d (l ∷ ls) h = both (λ (x : List ℕ × List Line). Numbered x.1) (ltb d l.indent) _ _ (bodies l.indent (l ∷ ls) h) h
+  unders d (l ∷ ls) h = cond_both (ltb d l.indent) _ _ (λ (x : List ℕ × List Line). Numbered x.1) (λ _. bodies l.indent (l ∷ ls) h) (λ _. h)
 
   literals : (strip : Bool) (under sum : ℕ) (ls : List Line) → Numbered ls → Reads (literal cap strip under sum ls)
   unfolding literal
@@ -328,16 +329,15 @@ EventOk (entry l) = 1 ≤ l.number
 EventOk (bad k n) = (1 ≤ n) × (stepped k || leb 61 k ≡ false)
 
 abbrev Events : List Event → Type 0
-Events [] = Unit {0}
-Events (e ∷ es) = EventOk e × Events es
-
-joins : (a b : List Event) → Events a → Events b → Events (a ++ b)
-joins [] b h k = k
-joins (e ∷ a) b h k = (h.0, joins a b h.1 k)
+Events es = All EventOk es
 
 events : (n : ℕ) (raw : List ℕ) → 1 ≤ n → Events (events_of n raw)
 unfolding events_of stepped
-events n raw h = both Events (tabbed raw) _ _ ((h, refl), tt) (both Events (empty (significant raw)) _ _ tt (both Events (is_marker (significant raw)) _ _ ((h, refl), tt) (h, tt)))
+events n raw h =
+    cond_both (tabbed raw) _ _ Events (λ _. ((h, refl), tt))
+    λ _. cond_both (empty (significant raw)) _ _ Events (λ _. tt)
+    λ _. cond_both (is_marker (significant raw)) _ _ Events (λ _. ((h, refl), tt))
+    λ _. (h, tt)
 
 blanks : (w n i : ℕ) → w < n → Events (blanks_before w n i)
 unfolding blanks_before
@@ -346,15 +346,17 @@ blanks (suc w) n i h = (omega arith, blanks w n i (omega arith))
 
 bodies-ok : (w n : ℕ) (raw : List ℕ) → w < n → Events (body_of w n raw)
 unfolding body_of stepped
-bodies-ok w n raw h = both Events (tabbed raw) _ _ ((omega arith, refl), tt) (joins (blanks_before w n (indent_of raw)) (entry (line (indent_of raw) (trim_end (drop (indent_of raw) raw)) n) ∷ []) (blanks w n (indent_of raw) h) (omega arith, tt))
+bodies-ok w n raw h = cond_both (tabbed raw) _ _ Events (λ _. ((omega arith, refl), tt))
+    λ _. all-append EventOk (blanks_before w n (indent_of raw)) _ (blanks w n (indent_of raw) h) (omega arith, tt)
 
 scans : (raws : List (List ℕ)) (lit : Literal) (w n : ℕ) → w < n → Events (scan lit w n raws)
 unfolding scan
 scans [] lit w n h = tt
-scans (raw ∷ raws) Closed w n h = joins (events_of n raw) (scan (literal_after raw) 0 (suc n) raws) (events n raw (omega arith)) (scans raws (literal_after raw) 0 (suc n) (omega arith))
-scans (raw ∷ raws) (Under at) w n h = both Events (all_white raw) (scan (Under at) (suc w) (suc n) raws) _ (scans raws (Under at) (suc w) (suc n) (omega arith))
-    (both Events (ltb at (indent_of raw)) _ _ (joins (body_of w n raw) (scan (Under at) 0 (suc n) raws) (bodies-ok w n raw h) (scans raws (Under at) 0 (suc n) (omega arith)))
-    (joins (events_of n raw) (scan (literal_after raw) 0 (suc n) raws) (events n raw (omega arith)) (scans raws (literal_after raw) 0 (suc n) (omega arith))))
+scans (raw ∷ raws) Closed w n h = all-append EventOk (events_of n raw) (scan (literal_after raw) 0 (suc n) raws) (events n raw (omega arith)) (scans raws (literal_after raw) 0 (suc n) (omega arith))
+scans (raw ∷ raws) (Under at) w n h =
+    cond_both (all_white raw) _ _ Events (λ _. scans raws (Under at) (suc w) (suc n) (omega arith))
+    λ _. cond_both (ltb at (indent_of raw)) _ _ Events (λ _. all-append EventOk (body_of w n raw) (scan (Under at) 0 (suc n) raws) (bodies-ok w n raw h) (scans raws (Under at) 0 (suc n) (omega arith)))
+    λ _. all-append EventOk (events_of n raw) (scan (literal_after raw) 0 (suc n) raws) (events n raw (omega arith)) (scans raws (literal_after raw) 0 (suc n) (omega arith))
 
 record Lists (a : Answer (List Line)) : Type 0 where
   refusals : Counts a

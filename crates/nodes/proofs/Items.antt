@@ -1,5 +1,5 @@
 -- A turn of a `for` over the items of a part, by what stands there. Assumes nothing.
-use Rattle.std.proofs.Common.{◌≡◌, ℕ, ◌≤◌, ◌^◌, List, length, Bor, sym, subst, arith}
+use Rattle.std.proofs.Common.{◌≡◌, ℕ, ◌≤◌, ◌^◌, List, length, sym, subst, arith}
 use Rattle.item.specs.Tree as trees
 use Rattle.item.specs.Places.{header_at}
 use Rattle.item.specs.declared.Item.{Item}
@@ -28,14 +28,3 @@ module _ {s : List ℕ} {at to : ℕ} (ys : trees.Items) (w : length s ≤ 2 ^ 2
   no_item_here t =
       let f = first-item ys t.before h in
       absurd (let z : ◌≡◌ {A = ℕ} 0 1 = cc (t.is, value-head f.y w f.value) in omega arith)
-
--- the same item in the same bytes
-pub same_item : {whole all : Bor (List ℕ)} {y : trees.Yaml} {item : Item} → all ≡ whole → IsItem whole.now y item → IsItem all.now y item
-same_item b i = rw b i
-
--- what stands from a place to another, as a part of the same bytes
-pub part_holds : {whole part : Bor (List ℕ)} {start end from to : ℕ} {sh : trees.Shape} {n : trees.Node sh} → part ≡ whole → (from ≤ to → to ≤ length whole.now → (start ≡ from) × (end ≡ to))
-    → Holds whole.now from to n → Holds part.now start end n
-part_holds b places h =
-    let q = places (omega (arith, h.lies.ends)) (omega (arith, h.lies.ends, h.lies.stands.within)) in
-    rw (b, q.0, q.1) h

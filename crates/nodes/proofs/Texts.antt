@@ -1,10 +1,11 @@
 -- What the items of values say: which text a value has, and an integer's sign and magnitude. Assumes nothing.
-use Rattle.std.proofs.Common.{Bor, ◌≡◌, ◌≢◌, refl, sym, ap, ◌∙◌, ℕ, suc, ◌+◌, ◌-◌, ◌≤◌, ◌<◌, ◌^◌, arith, [], List, Bool, true, false, not, eqb, ltb, length, take, drop, get_or, ℤ, pos, negsuc}
+use Rattle.std.proofs.Common.{Bor, ◌≡◌, ◌≢◌, refl, sym, ap, ◌∙◌, ℕ, suc, ◌-◌, ◌≤◌, ◌<◌, ◌^◌, arith, [], List, Bool, true, false, not, eqb, ltb, length, take, drop, get_or, ℤ, pos, negsuc}
 use Rattle.std.proofs.Math.Option.{Option, none, some}
 use Rattle.std.proofs.lemmas.Bool.{le-ltb, eq-eqb, eqb-true, false≢true}
+use Rattle.std.proofs.lemmas.Option.{none-some}
 use Rattle.std.specs.Int.Signed.{mag}
 use Rattle.std.specs.Int.{w64, cast_signed, is_negative}
-use Rattle.std.specs.Prelude.{nat_eq, unsigned_abs, Option as Maybe, Some, None, Result, Ok, Err, IfSome, IsSomeAnd}
+use Rattle.std.specs.Prelude.{nat_eq, unsigned_abs, Option as Maybe, Some, None, Result, Ok, Err, IfSome}
 use Rattle.std.specs.Bool.{then_some}
 use Rattle.std.specs.Result.{result_ok}
 use Rattle.refusal.specs.Base.{maybe, bytes}
@@ -13,6 +14,9 @@ use Rattle.item.specs.Encode.{number, le, twos, flag, item, encode, signed, kind
 use Rattle.item.specs.Places.{header_at}
 use Rattle.item.specs.Decode.{untwos}
 use Rattle.item.specs.declared.Item.{Item}
+use Rattle.item.specs.Kinds.{number_of}
+use Rattle.item.specs.declared.Kind.{Kind}
+use Rattle.item.specs.declared.Kind.TheVariants as kinds
 use Rattle.item.specs.declared.Broken.{Broken}
 use Rattle.item.specs.declared.encoded.Part.{Part}
 use Rattle.item.proofs.RoundTrip.{number-le, twos_back, twos_small}
@@ -20,15 +24,15 @@ use Rattle.item.proofs.Size.{le-length}
 use Rattle.number.specs.Integers.{int_text}
 use Rattle.number.proofs.Laws.{decimal-twenty}
 use Rattle.scalar.specs.Scalars.{key_text, bool_text}
-use Rattle.entries.specs.Entries.{Stands, FoundAt, content}
-use Rattle.entries.proofs.Standing.{stands_at, stands-part, stands-byte, value-size, value-head, valued}
+use Rattle.entries.specs.Entries.{Stands, content}
+use Rattle.entries.proofs.Standing.{stands-part, stands-byte, value-size, value-head, valued}
 use Rattle.entries.proofs.Values.{entries-of, items_of}
 use Rattle.meaning.specs.Meanings.{or_empty}
 use Rattle.meaning.specs.Record.{optional, text_item}
 use Rattle.nodes.specs.declared.node.Node.{Node}
 use Rattle.nodes.specs.declared.Scalar.{Scalar}
 use Rattle.nodes.specs.declared.Scalar.TheVariants as scalars
-use Rattle.nodes.specs.Contract.{told_of, AgreesMapping, AgreesItems, AgreesScalar, IsItem, IsNode, FoundNode, NodeOf, FindsNode, IsMapping, IsItems, scalar_text, text_or_empty, or_null}
+use Rattle.nodes.specs.Contract.{told_of, AgreesMapping, AgreesItems, AgreesScalar, IsItem, IsNode, FoundNode, NodeOf, IsMapping, IsItems, scalar_text, text_or_empty, or_null}
 
 -- ---- integers
 
@@ -99,14 +103,29 @@ module _ {s : List ℕ} {item : Item} where
   no_int (dict x) i b = λ k. absurd (omega (arith, k))
 
   -- none of the three, or too short to be one
-  pub nothing_told : (y : Yaml) → IsItem s y item → (item.kind ≡ 1 → item.to ≤ item.from) → kind_of y ≢ 2 → (item.kind ≡ 3 → ⊥) → none ≡ key_text y
+  pub nothing_told : (y : Yaml) → IsItem s y item → (item.kind ≡ 1 → item.to ≤ item.from) → item.kind ≢ 2 → item.kind ≢ 3 → none ≡ key_text y
   unfolding kind_of key_text content
   nothing_told null i a b c = refl
   nothing_told (bool x) i a b c = absurd (omega (arith, i.ends, a i.kind_is))
-  nothing_told (int x) i a b c = absurd (b refl)
+  nothing_told (int x) i a b c = absurd (b i.kind_is)
   nothing_told (str x) i a b c = absurd (c i.kind_is)
   nothing_told (seq x) i a b c = refl
   nothing_told (dict x) i a b c = refl
+
+  pub no_kind : (y : Yaml) → IsItem s y item → ((k : Kind) → item.kind ≢ number_of k) → none ≡ key_text y
+  no_kind y i n = nothing_told y i (λ e. absurd (n kinds.Bool e)) (n kinds.Int) (n kinds.Str)
+
+  pub other_told : (k : Kind) (y : Yaml) → IsItem s y item → item.kind ≡ number_of k → k ≢ kinds.Bool → k ≢ kinds.Int → k ≢ kinds.Str → none ≡ key_text y
+  other_told kinds.Null y i e b n t = nothing_told y i (λ q. absurd (omega (arith, q, e))) (λ q. omega (arith, q, e)) (λ q. omega (arith, q, e))
+  other_told kinds.Bool y i e b n t = absurd (b refl)
+  other_told kinds.Int y i e b n t = absurd (n refl)
+  other_told kinds.Str y i e b n t = absurd (t refl)
+  other_told kinds.Seq y i e b n t = nothing_told y i (λ q. absurd (omega (arith, q, e))) (λ q. omega (arith, q, e)) (λ q. omega (arith, q, e))
+  other_told kinds.Map y i e b n t = nothing_told y i (λ q. absurd (omega (arith, q, e))) (λ q. omega (arith, q, e)) (λ q. omega (arith, q, e))
+  other_told kinds.Scenario y i e b n t = nothing_told y i (λ q. absurd (omega (arith, q, e))) (λ q. omega (arith, q, e)) (λ q. omega (arith, q, e))
+  other_told kinds.Defaults y i e b n t = nothing_told y i (λ q. absurd (omega (arith, q, e))) (λ q. omega (arith, q, e)) (λ q. omega (arith, q, e))
+  other_told kinds.Steps y i e b n t = nothing_told y i (λ q. absurd (omega (arith, q, e))) (λ q. omega (arith, q, e)) (λ q. omega (arith, q, e))
+  other_told kinds.Step y i e b n t = nothing_told y i (λ q. absurd (omega (arith, q, e))) (λ q. omega (arith, q, e)) (λ q. omega (arith, q, e))
 
 -- a scalar's text
 pub told : (y : Yaml) (r : Maybe Scalar) → AgreesScalar y r → told_of r ≡ key_text y
@@ -134,10 +153,6 @@ there : {A B : Type 0} (r : Result A B) {x : A} → Some x ≡ result_ok r → O
 there (Ok y) e = cc e
 there (Err b) e = cc e
 
-not-there : {A B : Type 0} (r : Result A B) {x : A} → None ≡ result_ok r → r ≡ Ok x → ⊥
-not-there (Ok y) e q = absurd (let z : ◌≡◌ {A = ℕ} 0 1 = cc e in omega arith)
-not-there (Err b) e q = absurd (let z : ◌≡◌ {A = ℕ} 0 1 = cc q in omega arith)
-
 -- the node of a value that stands at a place
 module _ {s : List ℕ} {p : ℕ} {r : Result Item Broken} (h : r ≡ header_at s p) (y : Yaml) (g : Ranged y) (small : length s ≤ 2 ^ 20) (st : Stands s p (encode y)) where
   pub node-item : {item : Item} → Some item ≡ result_ok r → Ranged y × IsItem s y item
@@ -146,22 +161,12 @@ module _ {s : List ℕ} {p : ℕ} {r : Result Item Broken} (h : r ≡ header_at 
       (g, record { kind_is = v.kind_is; stands = v.inside; ends = v.ends })
 
   pub no-node : None ≡ result_ok r → ⊥
-  no-node e = not-there r e (h ∙ value-head y small st)
+  no-node e = none-some _ (e ∙ ap result_ok (h ∙ value-head y small st))
 
 -- what `Node::at` tells of a value that was found
 pub node_of : (o : Maybe Node) (all : Bor (List ℕ)) → IfSome o (λ (node : Node). node.bytes ≡ all) → NodeOf all.now o
 node_of (Some node) all h = ap (λ (x : Bor (List ℕ)). x.now) h
 node_of None all h = tt
-
-pub found-node : (all : Bor (List ℕ)) {p : ℕ} (o : Option Yaml) (r : Maybe Node) (f : FoundAt all.now o p) → IfSome r (λ (node : Node). node.bytes ≡ all)
-    → IfSome r (λ (node : Node). node.item.from ≡ p + 6) → IsSomeAnd r (IsNode f.value) → FindsNode o r
-found-node all o None f b q i = absurd i
-found-node all o (Some node) f b q i = record {
-  value = f.value;
-  is = f.is;
-  node_is = i;
-  whole = rw b (stands_at (omega (arith, q)) f.stands);
-}
 
 -- ---- its entries, its items
 
@@ -169,12 +174,12 @@ module _ (part : Part) {node : Node} (b : part.bytes ≡ node.bytes) (p : part.f
   node_mapping : node.item.kind ≡ 5 → IsMapping y part
   node_mapping k =
       let m = entries-of y i.ranged i.item_is.stands i.item_is.ends (sym i.item_is.kind_is ∙ k) in
-      record { entries = m.entries; is = m.is; holds = rw (b, p, q) m.holds }
+      record { entries = m.inner; is = m.is; holds = rw (b, p, q) m.holds }
 
   node_items : node.item.kind ≡ 4 → IsItems y part
   node_items k =
       let m = items_of y i.ranged i.item_is.stands i.item_is.ends (sym i.item_is.kind_is ∙ k) in
-      record { items = m.items; is = m.is; holds = rw (b, p, q) m.holds }
+      record { items = m.inner; is = m.is; holds = rw (b, p, q) m.holds }
 
   pub mapping_if : (t : Bool) → t ≡ eqb node.item.kind 5 → AgreesMapping y (then_some t part)
   mapping_if true e = node_mapping (eqb-true _ _ (sym e))

@@ -1,5 +1,5 @@
 -- Section 4 of document 01, for contracts: what is read of a tree, and what is written of it. Uses Base and Told of `refusal`; Tree and
--- Encode of `item`; Integers of `number`; Scalars of `scalar`; Entries of `entries`; Writing of this crate. Assumes nothing.
+-- Encode of `item`; Integers of `number`; Scalars of `scalar`; Entries of `entries`; Meanings of `meaning`; Writing of this crate. Assumes nothing.
 use Rattle.std.specs.Prelude.{◌≡◌, ◌≢◌, ℕ, ◌+◌, ◌-◌, List, length, ⊤, Option as Maybe, Some, None, Result, Ok, Err}
 use Rattle.std.proofs.Math.Option.{Option, none, some}
 use Rattle.refusal.specs.Base.{Answer, good, maybe}

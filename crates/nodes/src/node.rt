@@ -5,6 +5,7 @@ use crate::{Scalar, integer_at};
 use item::{Encoded, Found, HEADER, Integer, Item, Kind, Part, header_at};
 
 /// A value in encoded bytes: its item, and the bytes in which that stands.
+// Written out where an item is known: a constructor would require what `inside` says.
 #[derive(Clone, Copy, Debug)]
 pub struct Node<'a> {
     pub bytes: &'a [u8],
@@ -113,17 +114,14 @@ impl<'a> Node<'a> {
         ensures value { (y : Yaml) → IsNode y self.entry → AgreesScalar y result }
     {
         let Item { from, to, .. } = self.item;
-        let is_bool = self.is(Kind::Bool);
-        if is_bool && from < to {
-            return Some(Scalar::Bool(self.bytes[from] != 0));
+        let Ok(kind) = Kind::try_from(self.item.kind) else {
+            return None;
+        };
+        match kind {
+            Kind::Bool if from < to => Some(Scalar::Bool(self.bytes[from] != 0)),
+            Kind::Int => Some(Scalar::Int(self.integer()?)),
+            Kind::Str => Some(Scalar::Str(&self.bytes[from..to])),
+            _ => None,
         }
-        if let Some(n) = self.integer() {
-            return Some(Scalar::Int(n));
-        }
-        let is_string = self.is(Kind::Str);
-        if is_string {
-            return Some(Scalar::Str(&self.bytes[from..to]));
-        }
-        None
     }
 }

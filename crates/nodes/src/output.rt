@@ -51,8 +51,8 @@ impl RecordWriter<'_> {
         header
     }
 
-    /// Fills in the header of an item, if the item fits: its content is all that stands behind it. The kind is a number, as a header can
-    /// have any of 16 bits.
+    /// Fills in the header of an item, if the item fits: its content is all that stands behind it.
+    // Beside `close`, since a header can have any 16 bits as a kind: `Kind` alone asks more of callers.
     pub fn close_as(&mut self, header: usize, kind: usize)
         requires item { self.old.end ≤ length self.old.out.now → header + 6 ≤ self.old.end }
         requires kind { kind < 2 ^ 16 }

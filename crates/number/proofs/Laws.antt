@@ -5,7 +5,7 @@ use Rattle.std.proofs.Math.Bool.{and-true, and-false}
 use Rattle.std.proofs.Math.Option.{Option, none, some}
 use Rattle.std.proofs.Math.Seq.{sets}
 use Rattle.std.proofs.Math.Nat.{one-le-pow}
-use Rattle.std.proofs.lemmas.Bool.{lt-leb}
+use Rattle.std.proofs.lemmas.Bool.{lt-leb, cond_both}
 use Rattle.refusal.specs.Base.{ch, empty}
 use Rattle.utf8.specs.Utf8.{within}
 use Rattle.std.specs.Char.{is_ascii_digit}
@@ -164,6 +164,27 @@ pub decimal-more : (n : ℕ) → 10 ≤ n → n < 2 ^ 64 → decimal_of 20 n ≡
 unfolding decimal_of
 decimal-more n h k = rw (le-ltb n 10 h) (ap (λ (l : List ℕ). l ++ ((48 + n % 10) ∷ [])) (decimal-place 18 (n / 10) (omega arith)))
 
+-- so many of a number's digits, the last of all
+unfoldable pub last_digits : ℕ → ℕ → List ℕ
+last_digits zero n = []
+last_digits (suc k) n = last_digits k (n / 10) ++ ((48 + n % 10) ∷ [])
+
+last-length : (k n : ℕ) → length (last_digits k n) ≡ k
+unfolding last_digits
+last-length zero n = refl
+last-length (suc k) n = simp length-append (omega (arith, last-length k (n / 10)))
+
+-- as many as there are, all of them
+last-all : (places n : ℕ) → last_digits (length (decimal_of places n)) n ≡ decimal_of places n
+unfolding last_digits decimal_of
+last-all zero n = refl
+last-all (suc places) n =
+    let before : List ℕ = decimal_of places (n / 10) in
+    let more : length (before ++ ((48 + n % 10) ∷ [])) ≡ suc (length before) = simp length-append (omega arith) in
+    cond_both (ltb n 10) _ _ (λ (l : List ℕ). last_digits (length l) n ≡ l)
+    (λ e. let one : n % 10 ≡ n = omega (arith, ltb-true n 10 e) in rw one)
+    (λ _. rw (more, last-all places (n / 10)))
+
 decimal-short : (k n : ℕ) → length (decimal_of k n) ≤ k
 unfolding decimal_of
 decimal-short zero n = omega arith
@@ -176,7 +197,7 @@ decimal-short (suc k) n = go (ltb n 10) (decimal-short k (n / 10))
 pub decimal-twenty : (n : ℕ) → length (decimal_of 20 n) ≤ 20
 decimal-twenty n = decimal-short 20 n
 
-pub length-one : (n : ℕ) → n < 10 → length (decimal_of 20 n) ≡ 1
+length-one : (n : ℕ) → n < 10 → length (decimal_of 20 n) ≡ 1
 length-one n h = rw (decimal-one n h)
 
 -- a number between two powers of ten has a digit more than the lower one has zeros
@@ -195,15 +216,24 @@ decimal_count k (suc n) m z e p h l =
     let f : m ≡ suc n = e (omega arith) in
     omega (arith, decimal_length k 20 (suc n) p (omega arith) (omega arith))
 
-pub length_more : (n : ℕ) → 10 ≤ n → n < 2 ^ 64 → length (decimal_of 20 n) ≡ length (decimal_of 20 (n / 10)) + 1
-length_more n h k = ap length (decimal-more n h k) ∙ length-append (decimal_of 20 (n / 10)) ((48 + n % 10) ∷ [])
+-- before the first is stored, none are
+pub digits_ahead : (out : List ℕ) (at end n : ℕ) → end ≡ at + length (decimal_of 20 n) → sets out at (last_digits (end - at) n) ≡ sets out at (decimal_of 20 n)
+digits_ahead out at end n e = let many : end - at ≡ length (decimal_of 20 n) = omega arith in rw (many, last-all 20 n)
 
 -- the last digit is stored first
-pub digit-back : (out : List ℕ) (at end n : ℕ) → 10 ≤ n → n < 2 ^ 64 → end ≡ at + length (decimal_of 20 n)
-    → sets (set out (end - 1) (48 + n % 10)) at (decimal_of 20 (n / 10)) ≡ sets out at (decimal_of 20 n)
-digit-back out at end n h k e =
-    let p : end - 1 ≡ at + length (decimal_of 20 (n / 10)) = omega (arith, length_more n h k) in
-    rw (p, decimal-more n h k) (sets-before (decimal_of 20 (n / 10)) ((48 + n % 10) ∷ []) out at)
+pub digit_back : (out : List ℕ) (at i n : ℕ) {all : List ℕ} → at < i → sets out at (last_digits (i - at) n) ≡ all
+    → sets (set out (i - 1) (48 + n % 10)) at (last_digits (i - 1 - at) (n / 10)) ≡ all
+unfolding last_digits
+digit_back out at i n h e =
+    let before : List ℕ = last_digits (i - 1 - at) (n / 10) in
+    let place : i - 1 ≡ at + length before = omega (arith, last-length (i - 1 - at) (n / 10)) in
+    let more : i - at ≡ suc (i - 1 - at) = omega arith in
+    ap (λ (j : ℕ). sets (set out j (48 + n % 10)) at before) place ∙ sets-before before ((48 + n % 10) ∷ []) out at ∙ rw more at e
+
+-- once the first is stored, all are
+pub digits_stored : (out : List ℕ) (at i n : ℕ) {all : List ℕ} → i ≤ at → sets out at (last_digits (i - at) n) ≡ all → out ≡ all
+unfolding last_digits
+digits_stored out at i n h e = let none : i - at ≡ 0 = omega arith in rw none at e
 
 pub text-minus : (n : ℕ) → int_text (signed true n) ≡ minused (not (eqb n 0)) (decimal_of 20 n)
 unfolding int_text signed

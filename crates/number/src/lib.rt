@@ -68,18 +68,16 @@ fn decimal_len(n: u64) -> usize
 
 // A number's decimal digits, from the last to the first; by index, since what is written through an iterator from the end is not known
 // afterwards.
+#[tactic(auto, using(crate::proofs::Laws::digits_ahead))]
 fn put_decimal(out: &mut [u8], at: usize, n: u64)
     requires { at + length (decimal_of 20 n) ≤ length out.old }
     ensures { out.new ≡ sets out.old at (decimal_of 20 n) }
 {
     let mut left = n;
-    let mut end = at + decimal_len(n);
-    while left >= 10 {
-        end -= 1;
-        out[end] = b'0' + (left % 10) as u8;
+    for i in (at..at + decimal_len(n)).rev() {
+        out[i] = b'0' + (left % 10) as u8;
         left /= 10;
     }
-    out[at] = b'0' + left as u8;
 }
 
 // Whether an integer's text has a minus: that of `-0` has none.

@@ -1,10 +1,9 @@
 -- What is answered, and what is left in the lists. Assumes nothing.
 use Rattle.std.proofs.Common.{◌≡◌, refl, ap, ◌∙◌, ⊎_elim, ℕ, ◌+◌, ◌*◌, ◌≤◌, ◌<◌, arith, List, [], ◌∷◌, ◌++◌, Bool, true, false, ◌&&◌, length, drop, replicate, leb, le-leb}
 use Rattle.std.proofs.lemmas.List.Edits.{sets-eq}
-use Rattle.std.proofs.lemmas.Bool.{lt-leb}
+use Rattle.std.proofs.lemmas.Bool.{lt-leb, cases_lt}
 use Rattle.std.proofs.Math.Seq.{length-sets}
 use Rattle.refusal.specs.Base.{Answer, refused, ◌>>=◌, ◌>>◌, ensure}
-use Rattle.refusal.proofs.Tools.{split}
 use Rattle.pair_logs.specs.PairLogs.{Pair, Pairing, pairing, never_falls, flat, listed, pair_logs, pair_numbers, hammer_numbers, sound_numbers, output, counts_of}
 use Rattle.pair_logs.specs.Contract.{Written, WrittenAll, Fit, Agrees}
 use Rattle.pair_logs.specs.declared.Counts.{Counts}
@@ -84,9 +83,9 @@ module _ (hammers sounds pairs hs ss : List ℕ) where
         too_short n = ⊎_elim short_pairs
             (λ f. ⊎_elim (short_hammers f)
             (λ g. ⊎_elim (short_sounds f g) (λ h. absurd (n (f, g, h)))
-            (split (length ss') c.lone_sounds))
-            (split (length hs') c.lone_hammers))
-            (split (length pairs') (2 * c.pairs))
+            (cases_lt (length ss') c.lone_sounds))
+            (cases_lt (length hs') c.lone_hammers))
+            (cases_lt (length pairs') (2 * c.pairs))
 
         pub all_agree : Fit (length pairs') (length hs') (length ss') c → Agrees (pair_logs hammers sounds pairs hs ss) pairs pairs' hs hs' ss ss' c
         all_agree (f, g, h) = agreed f g h

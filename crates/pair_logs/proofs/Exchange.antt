@@ -1,7 +1,6 @@
 -- No pairs under the two rules are more than the walk's. Assumes nothing.
 use Rattle.std.proofs.Common.{◌≡◌, refl, ℕ, suc, ◌≤◌, ◌<◌, arith, ◌⊎◌, inl, inr, ⊎_elim, List, [], ◌∷◌, map, Bool, true, false, eqb, length, get_or, eqb-true}
-use Rattle.std.proofs.lemmas.Bool.{eqb-false}
-use Rattle.refusal.proofs.Tools.{split}
+use Rattle.std.proofs.lemmas.Bool.{eqb-false, cases_lt}
 use Rattle.pair_logs.specs.PairLogs.{Pair, Pairing, near, never_falls, times, hammers_of, sounds_of, Near, Rules}
 use Rattle.pair_logs.proofs.Laws.{times_more, hit_same, hit_other, near-true, true-near, in_order}
 use Rattle.pair_logs.proofs.Steps.{Placed, ended, paired, hammer_alone, sound_alone}
@@ -18,7 +17,7 @@ reordered e o = record { at_most = λ k. rw (← e k) (o.at_most k); none_below 
 unused : {n : ℕ} {ks : List ℕ} → Once n ks → times n ks ≡ 0 → Once (suc n) ks
 unused {n} o e = record {
   at_most = o.at_most;
-  none_below = λ k h. ⊎_elim (o.none_below k) (λ m. let same : k ≡ n = omega arith in rw same e) (split k n);
+  none_below = λ k h. ⊎_elim (o.none_below k) (λ m. let same : k ≡ n = omega arith in rw same e) (cases_lt k n);
 }
 
 module _ {n m : ℕ} {ks : List ℕ} (o : Once n (m ∷ ks)) where
@@ -35,7 +34,7 @@ module _ {n m : ℕ} {ks : List ℕ} (o : Once n (m ∷ ks)) where
   not-below = ⊎_elim
       (λ l. absurd (omega (arith, times_more m m ks, hit_same m m refl, o.none_below m l)))
       (λ l. l)
-      (split m n)
+      (cases_lt m n)
 
 -- ---- pairs under the rules, from position i of the hammers and j of the sounds on
 

@@ -1,6 +1,6 @@
 -- Every position of a log is in a pair or alone, once. Assumes nothing.
 use Rattle.std.proofs.Common.{◌≡◌, ℕ, suc, ◌+◌, ◌≤◌, ◌<◌, arith, ⊎_elim, List, [], ◌∷◌, length}
-use Rattle.refusal.proofs.Tools.{split}
+use Rattle.std.proofs.lemmas.Bool.{cases_lt}
 use Rattle.pair_logs.specs.PairLogs.{Pairing, hammers_of, sounds_of, times, Near, Rules, RisesFrom, Parted}
 use Rattle.pair_logs.proofs.Laws.{times_more, hit_same, hit_other}
 use Rattle.pair_logs.proofs.Steps.{Placed, ended, paired, hammer_alone, sound_alone}
@@ -48,7 +48,7 @@ with-these {n} {end} {these} {those} p = record {
   each = λ k h l. ⊎_elim
       (λ above. omega (arith, times_more k n these, hit_other k n (omega arith), p.each k above l))
       (λ at. omega (arith, times_more k n these, hit_same k n (omega arith), p.before k (omega arith)))
-      (split n k);
+      (cases_lt n k);
   behind = λ k h. omega (arith, times_more k n these, hit_other k n (omega (arith, p.all)), p.behind k h);
   all = omega (arith, p.all);
   these_rise = (omega arith, p.these_rise);
@@ -68,7 +68,7 @@ whole p = record {
 }
 
 at-most-once : {count : ℕ} {these those : List ℕ} → Parted count these those → (k : ℕ) → times k these ≤ 1
-at-most-once {count} p k = ⊎_elim (λ h. omega (arith, p.each k h)) (λ h. omega (arith, p.no_other k h)) (split k count)
+at-most-once {count} p k = ⊎_elim (λ h. omega (arith, p.each k h)) (λ h. omega (arith, p.no_other k h)) (cases_lt k count)
 
 module _ {hammers sounds : List ℕ} where
   hammers-from : {i j : ℕ} {r : Pairing} → Placed hammers sounds i j r → PartedFrom i (length hammers) (hammers_of r.pairs) r.lone_hammers

@@ -1,6 +1,6 @@
 -- What the walk along two logs does, step by step. Assumes nothing.
 use Rattle.std.proofs.Common.{◌≡◌, refl, ℕ, zero, suc, ◌+◌, ◌≤◌, ◌<◌, add-one, arith, ⊎_elim, List, Bool, true, false, length, get_or}
-use Rattle.refusal.proofs.Tools.{split}
+use Rattle.std.proofs.lemmas.Bool.{cases_lt}
 use Rattle.pair_logs.specs.PairLogs.{Pairing, nothing, pair, lone_hammer, lone_sound, near, pairing, never_falls}
 use Rattle.pair_logs.specs.Contract.{walk_at}
 use Rattle.pair_logs.proofs.Turns.{at_pair, at-hammer, at-sound, no-sound, no-hammer, at-end}
@@ -24,12 +24,12 @@ module _ (hammers sounds : List ℕ) (h_never : never_falls 0 hammers ≡ true) 
       (λ a. ⊎_elim
       (λ b. both a b (near (get_or hammers i 0) (get_or sounds j 0)) refl)
       (λ e. rw (no-sound hammers sounds i j a e, add-one i) (hammer_alone i j (λ b m l n. omega arith) (on (suc i) j a s (omega arith))))
-      (split j (length sounds)))
+      (cases_lt j (length sounds)))
       (λ d. ⊎_elim
       (λ b. rw (no-hammer hammers sounds i j d b, add-one j) (sound_alone i j (λ a m l n. omega arith) (on i (suc j) h b (omega arith))))
       (λ e. rw (at-end hammers sounds i j d e) (ended i j (omega arith) (omega arith)))
-      (split j (length sounds)))
-      (split i (length hammers))
+      (cases_lt j (length sounds)))
+      (cases_lt i (length hammers))
     where
       both : i < length hammers → j < length sounds → (t : Bool) → near (get_or hammers i 0) (get_or sounds j 0) ≡ t → Placed hammers sounds i j (walk_at hammers sounds i j)
       both a b true n = rw (at_pair hammers sounds i j a b n, add-one i, add-one j) (paired i j a b n (on (suc i) (suc j) a b (omega arith)))
@@ -40,7 +40,7 @@ module _ (hammers sounds : List ℕ) (h_never : never_falls 0 hammers ≡ true) 
           (λ o. rw (at-sound hammers sounds i j a b n o, add-one j) (sound_alone i j
           (λ c m l x. let y = near-true _ _ x in near-false n (omega (arith, in_order hammers h_never i c m l)) (omega arith))
           (on i (suc j) h b (omega arith))))
-          (split (get_or hammers i 0) (get_or sounds j 0))
+          (cases_lt (get_or hammers i 0) (get_or sounds j 0))
 
   -- k bounds the steps to come
   steps : (k i j : ℕ) → i ≤ length hammers → j ≤ length sounds → length hammers + length sounds < i + j + k → Placed hammers sounds i j (walk_at hammers sounds i j)

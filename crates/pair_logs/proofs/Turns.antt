@@ -1,14 +1,10 @@
 -- A turn of the walk: what it places, and how the lists grow. Assumes nothing.
-use Rattle.std.proofs.Common.{◌≡◌, refl, sym, ap, ◌∙◌, ◌⊎◌, inl, inr, ⊎_elim, ℕ, zero, suc, ◌+◌, ◌-◌, ◌*◌, ◌≤◌, ◌<◌, add-one, arith, List, [], ◌∷◌, Bool, true, false, ◌&&◌, leb, length, get_or, drop, set, length-drop, drop_of_length-le, drop-cons, le-leb, lt-ltb, le-ltb}
+use Rattle.std.proofs.Common.{◌≡◌, refl, sym, ap, ◌∙◌, ◌⊎◌, inl, inr, ⊎_elim, ℕ, zero, suc, ◌+◌, ◌-◌, ◌*◌, ◌≤◌, ◌<◌, add-one, arith, List, [], ◌∷◌, true, false, ◌&&◌, leb, length, get_or, drop, set, length-drop, drop_of_length-le, drop-cons, le-leb, lt-ltb, le-ltb}
 use Rattle.std.proofs.lemmas.List.Edits.{sets}
-use Rattle.std.proofs.lemmas.Bool.{lt-leb}
+use Rattle.std.proofs.lemmas.Bool.{lt-leb, and_right}
 use Rattle.pair_logs.specs.PairLogs.{nothing, pair, lone_hammer, lone_sound, near, place, all_alone, walk, pairing, never_falls, flat}
 use Rattle.pair_logs.specs.Contract.{Turns, walk_at, Puts, Going, range, Rests, Written, WrittenAll}
 use Rattle.pair_logs.specs.declared.Turn.TheVariants.{Pair, LoneHammer, LoneSound}
-
-and-false : (t : Bool) {u : Bool} → u ≡ false → t && u ≡ false
-and-false true e = e
-and-false false e = refl
 
 -- ---- what a turn places
 
@@ -107,7 +103,7 @@ module _ {hammers sounds pairs₀ pairs hs₀ hs ss₀ ss : List ℕ} {i a j b p
   hammers-fall f = rw (sym g.hammers_rise ∙ f)
 
   pub sounds-fall : never_falls b (drop j sounds) ≡ false → never_falls 0 hammers && never_falls 0 sounds ≡ false
-  sounds-fall f = and-false (never_falls 0 hammers) (sym g.sounds_rise ∙ f)
+  sounds-fall f = and_right (never_falls 0 hammers) _ (sym g.sounds_rise ∙ f)
 
   module _ (h : i < length hammers) (s : j < length sounds) where
     pub turn_falls : (get_or hammers i 0 < a) ⊎ (get_or sounds j 0 < b) → never_falls 0 hammers && never_falls 0 sounds ≡ false

@@ -43,6 +43,7 @@ struct Lists<'a> {
     lone_sounds: &'a mut [u32],
 }
 
+// How many of each there are. The same three as in `PairAnswer::Paired`, since a case of an enum is no type that `?` could hand on.
 #[derive(Clone, Copy)]
 struct Counts {
     pairs: usize,

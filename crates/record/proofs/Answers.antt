@@ -2,7 +2,7 @@
 use Rattle.std.specs.Prelude.{Some, cond, ◌&&◌}
 use Rattle.std.specs.Ordering.{nat_cmp, partial_le, partial_lt}
 use Rattle.std.proofs.lemmas.Bool.Decides.{nat_tests}
-use Rattle.std.proofs.Common.{Ordering, ◌≡◌, refl, sym, ap, ◌∙◌, ℕ, zero, Bool, false, suc, ◌+◌, ◌≤◌, ◌<◌, arith, List, map, length, take, get_or}
+use Rattle.std.proofs.Common.{Ordering, ◌≡◌, refl, sym, ap, ◌∙◌, ℕ, zero, Bool, false, suc, ◌+◌, ◌≤◌, ◌<◌, arith, List, map, length, take, get_or, Fits, w8}
 use Rattle.std.proofs.Math.Option.{Option, none, some}
 use Rattle.refusal.specs.Base.{Answer, good, refused, ◌>>=◌, maybe, given}
 use Rattle.meaning.specs.Meaning.{Meaning}
@@ -45,8 +45,8 @@ pub outside : {start end n place : ℕ} {exhausted b : Bool} → start ≡ 1 →
     → b ≡ (partial_le compared start place && cond exhausted (partial_lt compared place end) (partial_le compared place end)) → b ≡ false → (i : ℕ) → place ≡ suc i → n ≤ i
 outside s e x v f i p = grind (arith, nat_tests)
 
-pub opened_as : (b : List ℕ) {n : ℕ} → ((i : ℕ) → get_or b i 0 < 256) → good n ≡ check_record b → Opened b n
-opened_as b {n} small e = opening b (bytes_of b small) n e
+pub opened_as : (b : List ℕ) {n : ℕ} → ((i : ℕ) → Fits w8 (get_or b i 0)) → good n ≡ check_record b → Opened b n
+opened_as b {n} small e = opening b (bytes_of b (λ i. omega (arith, small i))) n e
 
 -- in a good record
 

@@ -9,7 +9,7 @@ use Rattle.std.proofs.Common.{Bor, MatchOption, inl, inr, ◌≡◌, refl, sym, 
 use Rattle.std.specs.Bool.{then_some}
 use Rattle.item.specs.declared.Item.{Item}
 use Rattle.item.proofs.Headers.{spans, header-item}
-pub use Rattle.value.proofs.Headers.{is-ok, is-err, there}
+pub use Rattle.value.proofs.Headers.{is-ok, is-err}
 use Rattle.record.specs.Read.{content}
 use Rattle.record.specs.Jobs.{part_of}
 use Rattle.record.specs.Contract.{ItemAt, ItemEnds}

@@ -4,14 +4,13 @@ use Rattle.refusal.specs.Base.{good, limit}
 use Rattle.item.specs.Tree.{bool, str, Ranged}
 use Rattle.item.specs.Encode.{item, encode}
 use Rattle.item.specs.Places.{header_at}
-use Rattle.std.specs.Prelude.{Result, None, Some, Ok, Err}
+use Rattle.std.specs.Prelude.{None, Some, Ok, Err}
 use Rattle.item.specs.declared.Item.{Item}
 use Rattle.item.specs.declared.Broken.{Broken}
 use Rattle.item.proofs.Size.{item-length}
-use Rattle.entries.specs.Entries.{Stands, span_at, behind, nth_item}
+use Rattle.entries.specs.Entries.{Stands, nth_item}
 use Rattle.entries.specs.declared.Span.{Span}
 use Rattle.entries.proofs.Standing.{stands-left, stands-right, stands_at, item-head, item-content}
-use Rattle.entries.proofs.Counting.{spanned}
 use Rattle.meaning.specs.Meaning.{Step, Meaning}
 use Rattle.meaning.specs.Record.{joined, optional, expected, text_item, step_parts, step_item, steps_item, fields}
 use Rattle.meaning.specs.Rules.{Each, StepRules, IsRecord}
@@ -22,21 +21,6 @@ use Rattle.record.specs.Contract.{span_of, StepsLie, StepsOf}
 use Rattle.record.proofs.Lookups.{OneItem, tree-item, nth-part, steps_start_lem, steps-fit, Opened}
 use Rattle.record.proofs.Answers.{last_found, never-nothing}
 
--- ---- the n-th item, whatever stands there
-
-pub record Inside (s : List ℕ) (start end : ℕ) : Type 0 where
-  pub order : start + 6 ≤ end
-  pub fits : end ≤ length s
-
-pub nth_inside : (s : List ℕ) (skip at : ℕ) {span : Span} → Some span ≡ nth_item s at skip → Inside s span.start span.end
-unfolding nth_item span_at behind
-nth_inside s zero at e = let i = spanned s at e in record { order = omega (arith, i.first, i.order); fits = i.inside }
-nth_inside s (suc skip) at {span} e = go (header_at s at) (λ to. nth_inside s skip to {span = span}) e
-  where
-    go : (r : Result Item Broken) → ((to : ℕ) → Some span ≡ nth_item s to skip → Inside s span.start span.end) → Some span ≡ behind r (λ to. nth_item s to skip) → Inside s span.start span.end
-    go (Ok item) more e = more item.to e
-    go (Err broken) more e = let z : ◌≡◌ {A = ℕ} 0 1 = cc in absurd (omega arith)
-
 -- ---- parts one behind another
 
 parts-stand : {s : List ℕ} (ps : List (List ℕ)) (i at : ℕ) → i < length ps → Stands s at (joined ps) → Stands s (at + length (joined (take i ps))) (get_or ps i [])
@@ -46,7 +30,7 @@ parts-stand (p ∷ ps) zero at n st = stands_at (omega arith) (stands-left p (jo
 parts-stand (p ∷ ps) (suc i) at n st =
     stands_at (omega (arith, length-append p (joined (take i ps)))) (parts-stand ps i (at + length p) (omega arith) (stands-right p (joined ps) st))
 
-next-part : (ps : List (List ℕ)) (i : ℕ) → i < length ps → length (joined (take (suc i) ps)) ≡ length (joined (take i ps)) + length (get_or ps i [])
+pub next-part : (ps : List (List ℕ)) (i : ℕ) → i < length ps → length (joined (take (suc i) ps)) ≡ length (joined (take i ps)) + length (get_or ps i [])
 unfolding joined
 next-part [] i n = absurd (omega arith)
 next-part (p ∷ ps) zero n = length-append p [] ∙ omega arith

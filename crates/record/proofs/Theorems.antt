@@ -1,6 +1,6 @@
 -- What the jobs on a record are for: the check accepts just the records of meanings that keep the rules, and by the lookups a
 -- record's whole meaning is read back. Assumes nothing.
-use Rattle.std.proofs.Common.{◌≡◌, refl, sym, ap, ◌∙◌, ℕ, zero, suc, ◌+◌, ◌-◌, ◌≤◌, ◌<◌, arith, List, [], ◌∷◌, ◌++◌, append_assoc, map, length, take, drop, get_or, length-append, length-drop, take-append-drop, drop_of_length-le, take_at, take-suc, drop-cons}
+use Rattle.std.proofs.Common.{◌≡◌, refl, sym, ap, ◌∙◌, ℕ, zero, suc, ◌+◌, ◌-◌, ◌≤◌, ◌<◌, arith, List, [], ◌∷◌, ◌++◌, append_assoc, map, length, take, drop, get_or, length-append, length-drop, take-append-drop, drop_of_length-le, take_at, drop-cons}
 use Rattle.std.proofs.Math.Option.{Option, none, some}
 use Rattle.refusal.specs.Base.{Answer, good, refused, ◌>>=◌, given, limit}
 use Rattle.item.specs.Encode.{item, Bytes}
@@ -14,6 +14,7 @@ use Rattle.record.specs.Jobs.{Found, opened, check_record, part_at, steps_start,
 use Rattle.record.proofs.Exact.{meaning-exact}
 use Rattle.record.proofs.RoundTrip.{meaning-back, meaning-of-back}
 use Rattle.record.proofs.Headers.{part-inside}
+use Rattle.record.proofs.StepPlaces.{next-part}
 use Rattle.record.proofs.Lookups.{Opened, opening, skip-parts, fields-start, steps_start_lem, header-fits, steps-fit, length-steps, field_is, step_is, numbered-in, numbered-out}
 use Rattle.record.specs.Theorems.{Decides, Gives, shown, numbers, together}
 
@@ -38,8 +39,7 @@ part_bytes s ps at i h e n =
     let a : ℕ = length (joined (take i ps)) in
     let here : drop (at + a) s ≡ joined (drop i ps) ++ [] = skip-parts s [] ps i at e in
     let first : joined (drop i ps) ≡ p ++ joined (drop (suc i) ps) = ap joined (drop-cons ps i [] n) in
-    let more : length (joined (take (suc i) ps)) ≡ a + length p =
-    ap (λ (l : List (List ℕ)). length (joined l)) (take-suc ps i [] n) ∙ ap length (joined-append (take i ps) (p ∷ [])) ∙ length-append (joined (take i ps)) (p ++ []) ∙ ap (λ (k : ℕ). a + k) (length-append p [] ∙ omega arith) in
+    let more : length (joined (take (suc i) ps)) ≡ a + length p = next-part ps i n in
     let size : length s - at ≡ length (joined ps) + 0 = sym (length-drop at s) ∙ ap length e ∙ length-append (joined ps) [] in
     let parts : length (joined ps) ≡ length (joined (take (suc i) ps)) + length (joined (drop (suc i) ps)) =
     ap (λ (l : List (List ℕ)). length (joined l)) (sym (take-append-drop (suc i) ps)) ∙ ap length (joined-append (take (suc i) ps) (drop (suc i) ps)) ∙ length-append (joined (take (suc i) ps)) (joined (drop (suc i) ps)) in

@@ -1,6 +1,7 @@
 -- Fields by the kinds of their items: what the code tests of a header, the definition tests of a tree. Assumes nothing.
 use Rattle.std.specs.Prelude.{if◌then◌else◌}
 use Rattle.std.proofs.Common.{◌≡◌, refl, sym, ap, ◌∙◌, ℕ, ◌+◌, ◌-◌, arith, List, [], ◌∷◌, ◌++◌, append_assoc, Bool, true, false, not, ◌&&◌, eqb, length, take, drop, length-drop, length-append, take_at, drop_at, drop-drop, eqb-true}
+use Rattle.std.proofs.lemmas.Bool.{and_parts}
 use Rattle.std.proofs.Math.Option.{Option, none, some, some-injective, none-ne-some}
 use Rattle.refusal.specs.Base.{maybe, one_of}
 use Rattle.refusal.proofs.Tools.{chosen}
@@ -18,7 +19,7 @@ use Rattle.item.specs.declared.Kind.{Kind}
 use Rattle.item.specs.declared.Kind.TheVariants.{Null, Str, Seq, Map}
 use Rattle.item.specs.declared.Kind.TheVariants as kinds
 use Rattle.item.proofs.Headers.{spans, header-item}
-use Rattle.item.proofs.Exact.{got, none≢, and_left, and_right, nothing-inv, bytes_drop}
+use Rattle.item.proofs.Exact.{got, none≢, nothing-inv, bytes_drop}
 use Rattle.utf8.specs.Utf8.{is_utf8}
 use Rattle.meaning.specs.Sound.{sound}
 use Rattle.value.specs.Tree.{tree, inside}
@@ -217,7 +218,7 @@ module _ (s : List ℕ) (at : ℕ) {item : Item} (h : Ok item ≡ header_at s at
 
   pub text-read : eqb item.kind 3 && is_utf8 inner ≡ true → field_of as_text 0 (drop at s) ≡ some (inner, drop item.to s)
   unfolding field_of as_text tree decode node content_of sound ◌>>=◌
-  text-read e = rw (text-kind (eqb-true item.kind 3 (and_left (eqb item.kind 3) (is_utf8 inner) e)), and_right (eqb item.kind 3) (is_utf8 inner) e)
+  text-read e = let p = and_parts (eqb item.kind 3) (is_utf8 inner) e in rw (text-kind (eqb-true item.kind 3 p.0), p.1)
 
   pub text-here : eqb item.kind 3 && is_utf8 inner ≡ true → ReadAt (field_of as_text 0) s at item.to
   text-here e = let i = spans s at h in record { value = inner; is = text-read e; forward = omega (arith, i.start, i.order); fits = i.fits }

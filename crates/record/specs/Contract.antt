@@ -1,5 +1,6 @@
 -- Section 5 of document 01, for the contracts inside the crate: what the functions inside the check answer, by the definitions of Read.
--- Uses Base and Told of `refusal`; Tree, Encode and Kinds of `item`; Meaning of `meaning`; Jobs and Read of this crate. Assumes nothing.
+-- Uses Base and Told of `refusal`; Tree, Encode and Kinds of `item`; Entries of `entries`; Meaning, Record and Rules of `meaning`; Jobs and
+-- Read of this crate. Assumes nothing.
 use Rattle.std.specs.Prelude.{◌≡◌, ℕ, ◌+◌, ◌-◌, ◌≤◌, List, map, Bool, true, false, Option as StdOption, None, Some, Result, Ok, Err, eqb, length, take, drop, if◌then◌else◌}
 use Rattle.std.specs.List.{list_any}
 use Rattle.std.proofs.Math.Option.{Option, none, some}

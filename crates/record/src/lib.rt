@@ -20,6 +20,11 @@ use meaning::{is_built_in, is_step_field};
 use refusal::Refusal;
 use value::{is_text, value_at};
 
+// How many collections may be open, one in another, of the 32 of a document: `setup` and `fail_on` stand in the document's own mapping.
+const FIELD_LEVELS: usize = 31;
+// What a step holds stands in that mapping, in the sequence of its steps, and in the step's own mapping.
+const STEP_LEVELS: usize = 29;
+
 /// What the check of a record answers.
 // An enum of its own, as each public job answers: what it tells has names, and the definitions name its cases.
 #[derive(Clone, Copy, Debug, PartialEq, Eq)]
@@ -124,7 +129,7 @@ fn flag_at(s: Encoded<'_>, at: usize) -> Option<usize>
 fn items_at(s: Encoded<'_>, at: usize) -> Option<usize>
     ensures { Walks (field_of as_items 31) s.entry.bytes.now at result }
 {
-    value_of(s, at, &[Kind::Seq], 31)
+    value_of(s, at, &[Kind::Seq], FIELD_LEVELS)
 }
 
 // No command that is built in has a mapping beside it.
@@ -133,9 +138,9 @@ fn expect_at(s: Encoded<'_>, at: usize, command: &[u8]) -> Option<usize>
     ensures { Walks (field_of (as_expect command.now) 29) s.entry.bytes.now at result }
 {
     if is_built_in(command) {
-        return value_of(s, at, &[Kind::Null], 29);
+        return value_of(s, at, &[Kind::Null], STEP_LEVELS);
     }
-    value_of(s, at, &[Kind::Null, Kind::Map], 29)
+    value_of(s, at, &[Kind::Null, Kind::Map], STEP_LEVELS)
 }
 
 // Where bytes are the content of an item, fields fill them; below each place is named after the field that begins there. A test answers
@@ -162,7 +167,7 @@ fn step_content(s: Encoded<'_>) -> Option<()>
     let id = text_at(s.bytes, 0)?;
     let command = text_at(s.bytes, id)?;
     let value = command_at(s.bytes, command)?;
-    let timeout = value_at(s, value, 29)?;
+    let timeout = value_at(s, value, STEP_LEVELS)?;
     let continues = optional_at(s, timeout)?;
     let expect = flag_at(s, continues)?;
     let end = expect_at(s, expect, &s.all()[command + HEADER..value])?;
@@ -209,7 +214,7 @@ fn fields(s: Encoded<'_>) -> Option<usize>
         return None;
     }
     let setup = text_at(s.bytes, image)?;
-    let defaults = value_at(s, setup, 31)?;
+    let defaults = value_at(s, setup, FIELD_LEVELS)?;
     rest(s, defaults)
 }
 
@@ -226,27 +231,29 @@ fn whole(record: &[u8]) -> Option<usize>
     fields(record.slice(HEADER, end))
 }
 
-/// Whether these bytes are a record, and how many steps it has.
 #[tactic(auto, using(crate::proofs::Answers::counted, crate::proofs::Answers::uncounted))]
-pub fn check_record(record: &[u8]) -> RecordAnswer
-    ensures { answer_of result ≡ definition.check_record «record».now }
+fn checked(record: &[u8]) -> Result<usize, Refusal>
+    ensures { told_of result ≡ definition.check_record «record».now }
 {
-    match whole(record) {
-        Some(steps) => RecordAnswer::Good { steps },
-        None => RecordAnswer::Refused(Refusal::Malformed),
+    whole(record).ok_or(Refusal::Malformed)
+}
+
+impl From<Result<usize, Refusal>> for RecordAnswer {
+    ghost from_gives = { λ checked answer. answer_of answer ≡ told_of checked };
+
+    fn from(checked: Result<usize, Refusal>) -> RecordAnswer {
+        match checked {
+            Ok(steps) => RecordAnswer::Good { steps },
+            Err(refusal) => RecordAnswer::Refused(refusal),
+        }
     }
 }
 
-impl RecordAnswer {
-    /// The same, where a refusal is handed on by `?`.
-    pub fn steps(self) -> Result<usize, Refusal>
-        ensures { told_of result ≡ answer_of self }
-    {
-        match self {
-            RecordAnswer::Good { steps } => Ok(steps),
-            RecordAnswer::Refused(refusal) => Err(refusal),
-        }
-    }
+/// Whether these bytes are a record, and how many steps it has.
+pub fn check_record(record: &[u8]) -> RecordAnswer
+    ensures { answer_of result ≡ definition.check_record «record».now }
+{
+    RecordAnswer::from(checked(record))
 }
 
 impl From<Result<Option<Span>, Refusal>> for Lookup {
@@ -264,7 +271,7 @@ impl From<Result<Option<Span>, Refusal>> for Lookup {
 fn field_at(record: &[u8], place: usize) -> Result<Option<Span>, Refusal>
     ensures { looked_of result ≡ definition.field «record».now place }
 {
-    check_record(record).steps()?;
+    checked(record)?;
     if !(1..=8).contains(&place) {
         return Err(Refusal::OutOfRange);
     }
@@ -282,7 +289,7 @@ pub fn field(record: &[u8], place: usize) -> Lookup
 pub fn steps_of(record: &[u8]) -> Result<StepItems<'_>, Refusal>
     ensures { MatchResult result (StepsOf «record».now) (λ e. refusal e ≡ definition.check_record «record».now) }
 {
-    let count = check_record(record).steps()?;
+    let count = checked(record)?;
     let list = nth_item(record, HEADER, 7).ok_or(Refusal::Malformed)?;
     let record = Encoded { bytes: record };
     Ok(StepItems {

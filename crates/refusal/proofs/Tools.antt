@@ -1,7 +1,8 @@
--- How a proof goes through the definitions: what a good answer of a bind or of a choice tells, and what a test tells. Assumes nothing.
-use Rattle.std.specs.Prelude.{if◌then◌else◌}
-use Rattle.std.proofs.Common.{◌≡◌, refl, sym, ap, ◌⊎◌, inl, inr, ℕ, ◌≤◌, ◌<◌, arith, Bool, true, false, ◌||◌, ltb, ltb-true, ltb-false}
-use Rattle.std.proofs.lemmas.Bool.{false≢true}
+-- How a proof goes through the definitions: what a good answer of a bind or of a choice tells, what a test tells, and what a refusal is that
+-- is handed on. Assumes nothing.
+use Rattle.std.specs.Prelude.{if◌then◌else◌, IsErrAnd, Result, Err}
+use Rattle.std.proofs.Common.{◌≡◌, refl, ap, ℕ, arith, Bool, true, false}
+use Rattle.std.proofs.lemmas.Result.{err_from_is_err_and}
 use Rattle.std.proofs.Math.Option.{Option, none, some}
 use Rattle.refusal.specs.Base.{Answer, good, refused, ◌>>=◌, ◌>>◌, maybe, given, ensure}
 
@@ -10,6 +11,14 @@ good-inj a b p = cc
 
 pub refused≢good : {A X : Type 0} (a : A) (k l s : ℕ) → refused k l s ≡ good a → X
 refused≢good a k l s p = absurd (let z : ◌≡◌ {A = ℕ} 0 1 = cc in omega arith)
+
+-- a refusal of one thing is one of another
+pub refused-as : {A B : Type 0} {n l s k i t : ℕ} → ◌≡◌ {A = Answer A} (refused n l s) (refused k i t) → ◌≡◌ {A = Answer B} (refused n l s) (refused k i t)
+refused-as {n = n} {l} {s} {k} {i} {t} e = let p : n ≡ k = cc e in let q : l ≡ i = cc e in let r : s ≡ t = cc e in rw (p, q, r)
+
+-- a refusal that `?` hands on
+pub err_is : {T E : Type 0} (r : Result T E) {e : E} → IsErrAnd r (λ y. y ≡ e) → r ≡ Err e
+err_is r h = let p = err_from_is_err_and r h in rw (p.1, p.2)
 
 -- a bind that is good
 pub bound : {A B X : Type 0} (a : Answer A) (f : A → Answer B) (b : B) → (a >>= f) ≡ good b → ((x : A) → a ≡ good x → f x ≡ good b → X) → X
@@ -53,21 +62,3 @@ bind-cong (refused n l s) f g h = refl
 pub if-cong : {A : Type 0} (t : Bool) (a a' c c' : A) → (t ≡ true → a ≡ a') → (t ≡ false → c ≡ c') → (if t then a else c) ≡ (if t then a' else c')
 if-cong true a a' c c' h k = h refl
 if-cong false a a' c c' h k = k refl
-
--- which of two numbers is below the other
-pub split : (i j : ℕ) → (i < j) ⊎ (j ≤ i)
-split i j = go (ltb i j) refl
-  where
-    go : (t : Bool) → ltb i j ≡ t → (i < j) ⊎ (j ≤ i)
-    go true e = inl (ltb-true i j e)
-    go false e = inr (ltb-false i j e)
-
--- neither of two tests
-pub neither : (a b : Bool) → a || b ≡ false → (a ≡ false) × (b ≡ false)
-neither true b e = absurd (false≢true (sym e))
-neither false b e = (refl, e)
-
--- what holds of both
-pub both : {A : Type 0} (P : A → Type 0) (t : Bool) (a c : A) → P a → P c → P (if t then a else c)
-both P true a c p q = p
-both P false a c p q = q

@@ -1,10 +1,10 @@
 // The rows of a text's lines.
 use crate::print::Hex;
-use crate::stream::LONGEST;
 use console::Numbers;
 use lines::{Lines, MOST_LINES, Row};
 use std::io;
 use std::io::Write;
+use tree::LONGEST;
 
 // By place, as whoever reads lines asks for them.
 fn print_lines_of(out: &mut impl Write, lines: &Lines<'_>) -> io::Result<()> {

@@ -4,9 +4,6 @@ use std::io::{ErrorKind, Read};
 
 // More than the texts of a section, and than the sections.
 pub(crate) const MANY: usize = 100000000;
-// The most bytes that a text of a scenario may have.
-pub(crate) const LONGEST: usize = 65535;
-
 // The number at a place of a text, or 0 where fewer bytes are left.
 pub(crate) fn number_at(text: &[u8], at: usize) -> u32 {
     match text.get(at..).and_then(|rest| rest.first_chunk()) {

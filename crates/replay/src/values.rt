@@ -1,14 +1,12 @@
 // Where the key of a line ends, and the line's value.
-ghost use Rattle.std.specs.Prelude.{◌≤◌, length};
-
 use crate::print::print_written;
-use crate::stream::LONGEST;
 use console::Numbers;
 use item::Found;
 use refusal::Refusal;
 use scalar::Role;
 use std::io;
 use std::io::Write;
+use tree::LONGEST;
 use writer::Writer;
 
 fn print_key(out: &mut impl Write, found: Found) -> io::Result<()> {
@@ -19,9 +17,7 @@ fn print_key(out: &mut impl Write, found: Found) -> io::Result<()> {
 }
 
 // How many bytes the value is written as.
-fn read_value(s: &[u8], written: &mut [u8; LONGEST]) -> Result<usize, Refusal>
-    requires { length s.now ≤ 65535 }
-{
+fn read_value(s: &[u8], written: &mut [u8; LONGEST]) -> Result<usize, Refusal> {
     let mut writer = Writer::new(written);
     flow::flow(s, 32, Role::AsValue, 1, &mut writer)?;
     Ok(writer.used())

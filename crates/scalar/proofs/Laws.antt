@@ -1,12 +1,12 @@
 -- Laws of scalars: what they are written as, and where plain text ends. Assumes nothing.
 use Rattle.std.specs.Prelude.{Result, if◌then◌else◌}
 use Rattle.std.specs.Result.{IsErrAnd}
-use Rattle.std.proofs.lemmas.Result.{err_from_is_err_and}
 use Rattle.std.proofs.Common.{◌≡◌, refl, ap, ◌∙◌, ℕ, suc, ◌+◌, ◌-◌, ◌≤◌, ◌<◌, add-one, arith, List, [], ◌∷◌, Bool, true, false, ◌&&◌, length, length-drop, take, drop, get_or, drop_of_length-le, ℤ, drop-cons, drop-drop, le-leb, ne_eqb}
 use Rattle.std.proofs.Math.Option.{Option, none, some}
 use Rattle.std.proofs.Math.Seq.{length-sets}
 use Rattle.std.proofs.lemmas.Bool.{lt-leb}
 use Rattle.refusal.specs.Base.{◌>>=◌, ch, bytes, one_of}
+use Rattle.refusal.proofs.Tools.{err_is}
 use Rattle.refusal.specs.declared.Refusal.{Refusal}
 use Rattle.refusal.specs.declared.Refusal.TheVariants.{WorkTooShort}
 use Rattle.item.specs.Tree.{Yaml, null, bool, int, str, seq, dict}
@@ -90,9 +90,7 @@ module _ (role : Role) (y : Yaml) (flat : Flat y) (s : List ℕ) (old new : Writ
 -- bytes that have no room are not put
 pub puts_nothing : (w : Writer) (bytes : List ℕ) (n : ℕ) (e : Refusal) (r : Result (Unit {0}) Refusal)
     → IsErrAnd r (λ y. y ≡ e) → (room_of w < n) × (e ≡ WorkTooShort) → n ≡ length bytes → Puts w w bytes r
-puts_nothing w bytes n e r q h m =
-    let p = err_from_is_err_and r q in
-    rw (p.1, p.2) (record { is = h.1; short = omega (arith, h.0, m); same = refl })
+puts_nothing w bytes n e r q h m = rw (err_is r q) (record { is = h.1; short = omega (arith, h.0, m); same = refl })
 
 pub ruleset rooms = (puts_nothing, appends_none, null_size, bool_size, int_size, item-length)
 

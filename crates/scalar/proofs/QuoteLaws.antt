@@ -1,6 +1,6 @@
 -- Laws of quoted strings: what stands at a place, and what is passed up to it. Assumes nothing.
 use Rattle.std.specs.Prelude.{Result, Ok, Err, Option as Chance, Some, None, ok_or}
-use Rattle.std.proofs.Common.{◌≡◌, refl, sym, ap, ◌∙◌, ℕ, suc, ◌+◌, ◌≤◌, ◌<◌, add-one, arith, List, [], ◌∷◌, ◌++◌, true, false, length, take, drop, get_or, drop_of_length-le, length-append, drop-cons, take-suc, take_all, eq-eqb, ne_eqb}
+use Rattle.std.proofs.Common.{◌≡◌, refl, sym, ap, ◌∙◌, ℕ, suc, ◌+◌, ◌≤◌, ◌<◌, add-one, arith, List, [], ◌∷◌, ◌++◌, true, false, length, take, drop, get_or, drop_of_length-le, length-append, drop-cons, take-suc, eq-eqb, ne_eqb}
 use Rattle.std.proofs.Math.Option.{Option, none, some}
 use Rattle.refusal.specs.Base.{good, refused, ◌>>=◌, ch}
 use Rattle.refusal.specs.Told.{refusal}
@@ -40,9 +40,6 @@ pub put_more : {a b c : Writer} (t : List ℕ) (k x : ℕ) → Appends a b (take
 put_more {a} {b} {c} t k x p q h e =
     let d : take k t ++ (x ∷ []) ≡ take (k + 1) t = rw (add-one, take-suc t k 0 h, e) in
     rw (← d) (appends_more p q)
-
-pub put_all : {a b : Writer} (k : ℕ) (t : List ℕ) → length t ≤ k → Appends a b (take k t) → Appends a b t
-put_all k t h p = rw (← take_all k t h) p
 
 module _ (cap line : ℕ) where
   -- ---- what stands at a place

@@ -4,12 +4,12 @@ use Rattle.std.specs.Prelude.{if◌then◌else◌}
 use Rattle.std.proofs.Common.{◌≡◌, refl, sym, ap, ◌∙◌, ℕ, ◌+◌, ◌*◌, ◌-◌, ◌/◌, ◌%◌, ◌^◌, ◌≤◌, ◌<◌, arith, List, [], ◌∷◌, ◌++◌, append-nil, Bool, true, false, ◌&&◌, not, true≢false, leb, eqb, ℤ, leb-true, eqb-true}
 use Rattle.std.proofs.Math.Option.{Option, none, some, none-ne-some}
 use Rattle.std.proofs.Math.Seq.{append_snoc}
-use Rattle.std.proofs.lemmas.Bool.{eqb-false}
+use Rattle.std.proofs.lemmas.Bool.{eqb-false, and_parts}
 use Rattle.refusal.specs.Base.{ch, bytes, same, one_of, empty}
 use Rattle.refusal.proofs.Open.{Base-open}
 use Rattle.refusal.proofs.Tools.{chosen}
 use Rattle.utf8.specs.Utf8.{◌‥◌, within}
-use Rattle.utf8.proofs.Ranges.{if-both, in-range}
+use Rattle.utf8.proofs.Ranges.{in-range}
 use Rattle.item.specs.Tree.{str}
 use Rattle.item.specs.Encode.{signed}
 use Rattle.number.specs.Integers.{is_digit, all_digits, decimal_from, zero_first, digits, positive, negative, integer, decimal_of, int_text}
@@ -38,7 +38,7 @@ decimal-on : (n : ℕ) (s : List ℕ) → 0 < n → all_digits s ≡ true → de
 unfolding decimal_from all_digits is_digit
 decimal-on n [] h d f = sym (append-nil (decimal_of 20 n))
 decimal-on n (b ∷ s) h d f =
-    let k = if-both (is_digit b) (all_digits s) d in
+    let k = and_parts (is_digit b) (all_digits s) d in
     let r = in-range (ch "0" ‥ ch "9") b k.0 in
     let m = n * 10 + (b - 48) in
     let l : m < 2 ^ 64 = omega (arith, decimal-le m s) in
@@ -50,12 +50,12 @@ decimal-back : (s : List ℕ) → not (empty s) && all_digits s ≡ true → zer
 unfolding empty all_digits is_digit zero_first decimal_from
 decimal-back [] d z f = absurd (true≢false (sym d))
 decimal-back (b ∷ []) d z f =
-    let r = in-range (ch "0" ‥ ch "9") b (if-both (is_digit b) true d).0 in
+    let r = in-range (ch "0" ‥ ch "9") b (and_parts (is_digit b) true d).0 in
     let n = 0 * 10 + (b - 48) in
     let p : 48 + n ≡ b = omega arith in
     decimal-one n (omega arith) ∙ rw p
 decimal-back (b ∷ c ∷ s) d z f =
-    let k = if-both (is_digit b) (is_digit c && all_digits s) d in
+    let k = and_parts (is_digit b) (is_digit c && all_digits s) d in
     let r = in-range (ch "0" ‥ ch "9") b k.0 in
     let o = eqb-false b 48 z in
     let n = 0 * 10 + (b - 48) in

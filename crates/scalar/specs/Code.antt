@@ -43,12 +43,12 @@ Passes b = (quote : Chance Quote) (depth : ℕ) (bs : List ℕ) → let q = open
 
 -- ---- scalars
 
--- what the text `t` says
-abbrev pub yaml_of : List ℕ → Said → Yaml
-yaml_of t said.Null = null
-yaml_of t (said.Bool b) = bool b
-yaml_of t (said.Int n) = int (signed n.negative n.magnitude)
-yaml_of t said.Text = str t
+-- what a text says
+abbrev pub yaml_of : Said → Yaml
+yaml_of said.Null = null
+yaml_of (said.Bool b) = bool b
+yaml_of (said.Int n) = int (signed n.negative n.magnitude)
+yaml_of (said.Text t) = str t.now
 
 -- bytes are put behind what was written; or they have no room, and nothing is
 abbrev pub Puts : Writer → Writer → List ℕ → Result (Unit {0}) Refusal → Type 0

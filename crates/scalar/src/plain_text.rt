@@ -20,17 +20,17 @@ use writer::Writer;
 
 // What a plain text says; a string is the text itself.
 #[derive(Clone, Copy)]
-enum Said {
+enum Said<'a> {
     Null,
     Bool(bool),
     Int(Integer),
-    Text,
+    Text(&'a [u8]),
 }
 
-impl Said {
+impl Said<'_> {
     #[tactic(auto, unfolding(crate::specs::Contract::is_key))]
     fn is_key(self) -> bool
-        ensures { (t : List ℕ) → result ≡ is_key (yaml_of t self) }
+        ensures { result ≡ is_key (yaml_of self.entry) }
     {
         !matches!(self, Said::Null)
     }
@@ -59,8 +59,8 @@ fn is_false(t: &[u8]) -> bool
 }
 
 #[tactic(auto, unfolding(crate::specs::Scalars::scalar_of, crate::specs::Scalars::int_or))]
-fn said_by(t: &[u8]) -> Said
-    ensures { yaml_of t.now result ≡ scalar_of t.now }
+fn said_by(t: &[u8]) -> Said<'_>
+    ensures { yaml_of result ≡ scalar_of t.now }
 {
     if is_null(t) {
         return Said::Null;
@@ -73,14 +73,13 @@ fn said_by(t: &[u8]) -> Said
     }
     match integer(t) {
         Some(n) => Said::Int(n),
-        None => Said::Text,
+        None => Said::Text(t),
     }
 }
 
 // A string's item is the same in a key's place.
 #[tactic(auto, using(crate::proofs::Laws::rooms), unfolding(item::specs::Encode::encode))]
 fn put_text(t: &[u8], writer: &mut Writer<'_>) -> Result<(), Refusal>
-    requires { length t.now ≤ 65535 }
     ensures { Puts writer.old writer.new (item 3 t.now) result }
 {
     writer.reserve(HEADER + t.len())?;
@@ -142,17 +141,16 @@ fn put_int_key(n: Integer, writer: &mut Writer<'_>) -> Result<(), Refusal>
     Ok(())
 }
 
-// The scalar that a trimmed text says, in its role.
+// What a trimmed text says, in its role.
 #[tactic(auto, using(crate::proofs::Laws::written_text))]
-fn put_scalar(said: Said, t: &[u8], role: Role, writer: &mut Writer<'_>) -> Result<(), Refusal>
-    requires { length t.now ≤ 65535 }
-    ensures { Puts writer.old writer.new (written role (yaml_of t.now said)) result }
+fn put_scalar(said: Said<'_>, role: Role, writer: &mut Writer<'_>) -> Result<(), Refusal>
+    ensures { Puts writer.old writer.new (written role (yaml_of said.entry)) result }
 {
     match said {
         Said::Null => put_null(role, writer),
         Said::Bool(value) => put_bool(value, role, writer),
         Said::Int(n) => put_int(n, role, writer),
-        Said::Text => put_text(t, writer),
+        Said::Text(t) => put_text(t, writer),
     }
 }
 
@@ -185,10 +183,9 @@ pub fn ends_colon(s: &[u8], i: usize) -> bool
     requires { i ≤ length s.now }
     ensures { result ≡ ends_colon (drop i s.now) }
 {
-    if i == s.len() {
+    let Some(&b) = s.get(i) else {
         return true;
-    }
-    let b = s[i];
+    };
     let is_space = b == b' ';
     is_space || ends_item(b)
 }
@@ -231,15 +228,13 @@ pub fn plain(
     role: Role,
     writer: &mut Writer<'_>,
 ) -> Result<Parsed, Refusal>
-    requires in_range { i ≤ length s.now }
-    requires short { length s.now ≤ 65535 }
+    requires { i ≤ length s.now }
     ensures { (line : ℕ) → ReadsValue role (read.plain (cap_of writer.old) line (is_in_flow stops) role writer.old.used (drop i s.now))
         s.now writer.old writer.new result }
 {
     let next = plain_end(s, i, stops);
-    let text = trimmed(&s[i..next]);
-    let said = said_by(text);
-    put_scalar(said, text, role, writer)?;
+    let said = said_by(trimmed(&s[i..next]));
+    put_scalar(said, role, writer)?;
     Ok(Parsed {
         next,
         key: said.is_key(),

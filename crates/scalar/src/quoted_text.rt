@@ -60,10 +60,10 @@ fn escape_piece(s: &[u8], i: usize, line: u32) -> Result<Piece, Refusal>
     requires { i ≤ length s.now }
     ensures { (cap : ℕ) → ReadsPiece (double_quoted cap line true) (double_quoted cap line false) cap line s.now i result }
 {
-    if i == s.len() {
+    let Some(&escape) = s.get(i) else {
         return Err(Refusal::EscapeCut { line });
-    }
-    let byte = unescaped(s[i]).ok_or(Refusal::UnknownEscape { line })?;
+    };
+    let byte = unescaped(escape).ok_or(Refusal::UnknownEscape { line })?;
     Ok(Piece::Byte { byte, next: i + 1 })
 }
 
@@ -72,14 +72,14 @@ fn double_piece(s: &[u8], i: usize, line: u32) -> Result<Piece, Refusal>
     requires { i ≤ length s.now }
     ensures { (cap : ℕ) → ReadsPiece (double_quoted cap line false) (double_quoted cap line false) cap line s.now i result }
 {
-    if i == s.len() {
+    let Some(&byte) = s.get(i) else {
         return Err(Refusal::QuoteOpen { line });
-    }
+    };
     let next = i + 1;
-    match s[i] {
+    match byte {
         b'"' => Ok(Piece::Shut { next }),
         b'\\' => escape_piece(s, next, line),
-        byte => Ok(Piece::Byte { byte, next }),
+        _ => Ok(Piece::Byte { byte, next }),
     }
 }
 
@@ -89,21 +89,20 @@ fn single_piece(s: &[u8], i: usize, line: u32) -> Result<Piece, Refusal>
     requires { i ≤ length s.now }
     ensures { (cap : ℕ) → ReadsPiece (single_quoted cap line false) (single_quoted cap line false) cap line s.now i result }
 {
-    if i == s.len() {
+    let Some(&byte) = s.get(i) else {
         return Err(Refusal::QuoteOpen { line });
-    }
-    let byte = s[i];
+    };
     let next = i + 1;
     if byte != b'\'' {
         return Ok(Piece::Byte { byte, next });
     }
-    if next == s.len() || s[next] != b'\'' {
-        return Ok(Piece::Shut { next });
+    match s.get(next) {
+        Some(b'\'') => Ok(Piece::Byte {
+            byte,
+            next: next + 1,
+        }),
+        _ => Ok(Piece::Shut { next }),
     }
-    Ok(Piece::Byte {
-        byte,
-        next: next + 1,
-    })
 }
 
 fn piece_at(string: InQuotes<'_>, i: usize) -> Result<Piece, Refusal>
@@ -134,7 +133,8 @@ fn span_of(string: InQuotes<'_>) -> Result<Span, Refusal>
     }
 }
 
-// The string's bytes, of which there are `size`.
+// The string's bytes, of which there are `size`. A `match`: behind a `let .. else` it is not known that what is no byte is the closing quote,
+// and the proof did not close.
 fn put_bytes(string: InQuotes<'_>, size: usize, writer: &mut Writer<'_>)
     requires { size ≤ room_of writer.old }
     ensures { (cap : ℕ) (t rest : List ℕ) → quoted_of string.entry.quote cap string.entry.line (drop string.entry.from string.entry.s.now)
@@ -178,8 +178,7 @@ pub fn quoted(
     line: u32,
     writer: &mut Writer<'_>,
 ) -> Result<Parsed, Refusal>
-    requires in_range { i ≤ length s.now }
-    requires short { length s.now ≤ 65535 }
+    requires { i ≤ length s.now }
     ensures { (role : Roles) → ReadsValue role (string (cap_of writer.old) line role writer.old.used
         (quoted_of quote (cap_of writer.old) line (drop i s.now))) s.now writer.old writer.new result }
 {

@@ -7,9 +7,10 @@ use Rattle.refusal.proofs.Tools.{good-inj, refused≢good, bound, bound', chosen
 use Rattle.utf8.proofs.Utf8Laws.{utf8_nil}
 use Rattle.item.specs.Tree.{Shape, Node, Yaml, null, bool, int, str, seq, dict, Items, end, ◌▸◌, Entries, done, pair, levels, get, Ranged}
 use Rattle.scalar.specs.Scalars.{key_text}
+use Rattle.std.proofs.lemmas.Bool.{cond_both}
 use Rattle.tree.proofs.Keys.{Differing}
 use Rattle.utf8.specs.Utf8.{Utf8}
-use Rattle.tree.proofs.Strings.{Texts, either, key-utf8}
+use Rattle.tree.proofs.Strings.{Texts, key-utf8}
 use Rattle.tree.proofs.Fit.{Fit, fit-null, fit-end, fit-seq}
 use Rattle.tree.proofs.Sound.{Sound}
 use Rattle.meaning.specs.Sound.{sound}
@@ -73,7 +74,7 @@ Held P (some a) = P a
 get_fit : {l : ℕ} (k : List ℕ) (es : Entries) → Fit l es → Held (Fit l) (get k es)
 unfolding get
 get_fit k done h = tt
-get_fit {l} k (pair j v es) h = either (Held (Fit l)) (same j k) (some v) (get k es) (λ _. value h) (λ _. get_fit k es (rest h))
+get_fit {l} k (pair j v es) h = cond_both (same j k) (some v) (get k es) (Held (Fit l)) (λ _. value h) (λ _. get_fit k es (rest h))
 
 text-utf8 : (y : Yaml) → Texts y → Held Utf8 (key_text y)
 unfolding given
@@ -185,7 +186,7 @@ Commands l (pair k v es) = Command l (k, v) × Commands l es
 commands-fit : {l : ℕ} (es : Entries) → Fit l es → Commands l (commands es)
 unfolding commands
 commands-fit done h = tt
-commands-fit {l} (pair k v es) h = either (Commands l) (one_of k step_fields) (commands es) (pair k v (commands es))
+commands-fit {l} (pair k v es) h = cond_both (one_of k step_fields) (commands es) (pair k v (commands es)) (Commands l)
     (λ _. commands-fit es (rest h))
     (λ f. (record { key = h.strings.0; value = value h; free = f }, commands-fit es (rest h)))
 

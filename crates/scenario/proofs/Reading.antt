@@ -1,47 +1,51 @@
 -- What each step of reading a scenario comes to. Assumes nothing.
-use Rattle.std.proofs.Common.{◌≡◌, refl, sym, ap, ◌∙◌, subst, ℕ, ◌+◌, ◌*◌, ◌≤◌, ◌<◌, min, ◌^◌, arith, List, ◌++◌, append_assoc, length, take, drop, replicate, length-append, length-drop, take-append-drop, length-take-le, le-leb}
+use Rattle.std.proofs.Common.{◌≡◌, refl, sym, ap, ◌∙◌, ℕ, ◌+◌, ◌*◌, ◌≤◌, ◌<◌, min, ◌^◌, arith, List, ◌++◌, append_assoc, length, take, drop, replicate, Ok, length-append, length-drop, take-append-drop, length-take-le, le-leb}
+use Rattle.std.proofs.Math.Seq.{length_front}
 use Rattle.std.proofs.lemmas.List.Edits.{sets, sets-eq}
 use Rattle.std.proofs.lemmas.List.{drop-append-le}
 use Rattle.std.proofs.lemmas.Bool.{lt-leb}
 use Rattle.refusal.specs.Base.{Answer, good, refused, ◌>>=◌, ◌>>◌, ensure}
 use Rattle.refusal.specs.Told.{told_of, refusal}
-use Rattle.refusal.proofs.Tools.{bound}
+use Rattle.refusal.proofs.Tools.{bound, refused-as}
 use Rattle.refusal.specs.declared.Refusal.{Refusal}
-use Rattle.item.specs.Tree.{Yaml}
+use Rattle.item.specs.Tree.{Yaml, Ranged}
 use Rattle.item.specs.Encode.{encode}
 use Rattle.lines.specs.Lines.{Line, significant_lines}
+use Rattle.lines.specs.declared.Row.{Row}
 use Rattle.step_lines.specs.StepLines.{step_lines}
 use Rattle.entries.specs.Entries.{Stands}
 use Rattle.meaning.specs.Meanings.{meaning_of}
 use Rattle.meaning.specs.Meaning.{Meaning, Step}
 use Rattle.meaning.specs.Record.{record_of}
 use Rattle.tree.specs.Tree.{admitted, tree_of, tree}
-use Rattle.tree.specs.Contract.{WroteTree}
-use Rattle.std.specs.Prelude.{Result}
+use Rattle.tree.specs.Contract.{WroteTree, WroteLined}
+use Rattle.tree.proofs.Sound.{tree-integers}
 use Rattle.nodes.specs.declared.output.RecordWriter.{RecordWriter}
 use Rattle.scenario.specs.declared.Sizes.{Sizes}
+use Rattle.scenario.specs.declared.ScenarioAnswer.{ScenarioAnswer}
 use Rattle.scenario.specs.declared.ScenarioAnswer.TheVariants.{Read, Refused as Unread}
 use Rattle.scenario.specs.Scenario.{Reading, lines_for, reading_of, scenario, output, tree_bytes, record_bytes, step_numbers, answer_of, sizes_of}
 use Rattle.scenario.specs.Contract.{WroteSteps, WroteScenario, AgreesScenario}
 
--- a tree at the front stands there
-pub tree-stands : (old new : List ℕ) (y : Yaml) → new ≡ sets old 0 (encode y) → length (encode y) ≤ length old → Stands new 0 (encode y)
-tree-stands old new y e h =
-    let z : 0 + length (encode y) ≡ length (encode y) = omega arith in
-    let w : new ≡ encode y ++ drop (0 + length (encode y)) old = e ∙ sets-eq (encode y) old 0 (omega arith) in
-    record {
-      rest = drop (0 + length (encode y)) old;
-      here = w;
-      within = omega (arith, ap length w ∙ length-append (encode y) (drop (0 + length (encode y)) old), length-drop (0 + length (encode y)) old);
-    }
+-- what holds of any tree in range that stands in the work holds of the one that was read
+module _ {text old new : List ℕ} {rows : List Row} {bytes count : ℕ} (w : WroteLined (tree (length old) text) text rows old new bytes count) where
+  abbrev whole : List ℕ
+  whole = encode w.wrote.tree
 
--- a refusal of one thing is one of another
-again : {A B : Type 0} (n l s k i t : ℕ) → ◌≡◌ {A = Answer A} (refused n l s) (refused k i t) → ◌≡◌ {A = Answer B} (refused n l s) (refused k i t)
-again n l s k i t e =
-    let p : n ≡ k = cc in
-    let q : l ≡ i = cc in
-    let r : s ≡ t = cc in
-    rw (p, q, r)
+  fits : length whole ≤ length old
+  fits = omega (arith, w.wrote.size, w.wrote.fits)
+
+  stands : Stands new 0 whole
+  stands =
+      let here : new ≡ whole ++ drop (0 + length whole) old = w.wrote.stored ∙ sets-eq whole old 0 (omega (arith, fits)) in
+      record {
+        rest = drop (0 + length whole) old;
+        here = here;
+        within = omega (arith, fits, ap length here ∙ length-append whole (drop (0 + length whole) old), length-drop (0 + length whole) old);
+      }
+
+  pub of_tree : {P : Yaml → Type 0} → ((y : Yaml) → Ranged y → Stands new 0 (encode y) → P y) → P w.wrote.tree
+  of_tree f = f w.wrote.tree (tree-integers (length old) text w.wrote.tree w.wrote.is) stands
 
 good≢refused : {A X : Type 0} (a : A) (k l s : ℕ) → good a ≡ refused k l s → X
 good≢refused a k l s e = absurd (let z : ◌≡◌ {A = ℕ} 0 1 = cc in omega arith)
@@ -50,12 +54,12 @@ good≢refused a k l s e = absurd (let z : ◌≡◌ {A = ℕ} 0 1 = cc in omega
 untree : {A B C : Type 0} (a : Answer (Unit {0})) (b : Answer A) (f : A → Answer B) (g : A → B → Answer C) (k l s : ℕ)
     → (a >> (b >>= f)) ≡ refused k l s → (a >> (b >>= λ x. f x >>= g x)) ≡ refused k l s
 unfolding ◌>>◌ ◌>>=◌
-untree (refused n i t) b f g k l s e = again n i t k l s e
-untree (good u) (refused n i t) f g k l s e = again n i t k l s e
+untree (refused n i t) b f g k l s e = refused-as e
+untree (good u) (refused n i t) f g k l s e = refused-as e
 untree {B = B} (good u) (good x) f g k l s e = go (f x) e
   where
     go : (c : Answer B) → c ≡ refused k l s → (c >>= g x) ≡ refused k l s
-    go (refused n i t) p = again n i t k l s p
+    go (refused n i t) p = refused-as p
     go (good y) p = good≢refused y k l s p
 
 module _ (work room places : ℕ) (text : List ℕ) where
@@ -162,12 +166,6 @@ same-lent text work room places w r p a b c =
     let k : min (length (take p places)) (2 ^ 18) ≡ min (length places) (2 ^ 18) = omega (arith, length-take-le p places (omega arith)) in
     rw (i, j, k)
 
-pub lent_is : (text work tree' room bytes places lines : List ℕ) (w r p : ℕ) → w ≡ min (length work) (2 ^ 20) → r ≡ min (length room) (2 ^ 20) → p ≡ min (length places) (2 ^ 18)
-    → (a : Result Sizes Refusal) → AgreesScenario (scenario (length (take w work)) (length (take r room)) (length (take p places)) text) (take w work) tree' (take r room) bytes (take p places) lines a
-    → AgreesScenario (scenario (length work) (length room) (length places) text) (take w work) tree' (take r room) bytes (take p places) lines a
-lent_is text work tree' room bytes places lines w r p i j k a v =
-    subst (λ (x : Answer Reading). AgreesScenario x (take w work) tree' (take r room) bytes (take p places) lines a) (same-lent text work room places w r p i j k) v
-
 -- an output whose first places were lent, written from the front
 pub output-is : (old b : List ℕ) (n : ℕ) → n ≤ length old → length b ≤ n → sets (take n old) 0 b ++ drop n old ≡ b ++ drop (length b) old
 output-is old b n h f =
@@ -178,36 +176,36 @@ output-is old b n h f =
     sym (drop-append-le (length b) (take n old) (drop n old) (omega arith)) ∙ ap (drop (length b)) (take-append-drop n old) in
     ap (λ (l : List ℕ). l ++ drop n old) one ∙ append_assoc b (drop (length b) (take n old)) (drop n old) ∙ ap (λ (l : List ℕ). b ++ l) rest
 
--- what was lent comes back as long as it was
-pub lent_length : (old new : List ℕ) (n : ℕ) → n ≤ length old → length new ≡ length (take n old) → length (new ++ drop n old) ≡ length old
-lent_length old new n h k = length-append new (drop n old) ∙ omega (arith, length-take-le n old h, length-drop n old)
+-- what is said of all that was lent: the answer, and each output as it is left
+pub record LentTold (x : Answer Reading) (work tree' room bytes places lines : List ℕ) (w r p : ℕ) (told : ScenarioAnswer) : Type 0 where
+  pub answer : answer_of told ≡ sizes_of x
+  pub tree_left : tree' ++ drop w work ≡ output tree_bytes x work
+  pub record_left : bytes ++ drop r room ≡ output record_bytes x room
+  pub lines_left : lines ++ drop p places ≡ output step_numbers x places
 
-module _ (x : Answer Reading) (work tree' room bytes places lines : List ℕ) (w r p : ℕ) (hw : w ≤ length work) (hr : r ≤ length room) (hp : p ≤ length places) {t e l n : ℕ}
-    (got : WroteScenario x (take w work) tree' (take r room) bytes (take p places) lines t e l n) where
-  pub read_told : answer_of (Read t e l n) ≡ sizes_of x
-  unfolding sizes_of
-  read_told = rw (got.is, got.lines_size, got.tree_size, got.record_size)
-      (ap (λ (k : ℕ). good (length (encode got.read.tree), length (record_of got.read.meaning), 4 * k, n)) got.lines_many
-      ∙ ap (λ (k : ℕ). good (length (encode got.read.tree), length (record_of got.read.meaning), 4 * length got.read.lines, k)) got.steps_many)
-
-  pub tree-out : tree' ++ drop w work ≡ output tree_bytes x work
-  unfolding output tree_bytes
-  tree-out = rw got.is (ap (λ (b : List ℕ). b ++ drop w work) got.tree_stored ∙ output-is work (encode got.read.tree) w hw (omega (arith, got.tree_size, got.tree_fits, length-take-le w work hw)))
-
-  pub record-out : bytes ++ drop r room ≡ output record_bytes x room
-  unfolding output record_bytes
-  record-out = rw got.is (ap (λ (b : List ℕ). b ++ drop r room) got.record_stored ∙ output-is room (record_of got.read.meaning) r hr (omega (arith, got.record_size, got.record_fits, length-take-le r room hr)))
-
-  pub lines-out : lines ++ drop p places ≡ output step_numbers x places
-  unfolding output step_numbers
-  lines-out = rw got.is (ap (λ (b : List ℕ). b ++ drop p places) got.lines_stored ∙ output-is places got.read.lines p hp (omega (arith, got.lines_many, got.lines_fit, length-take-le p places hp)))
+pub lent-read : (text work tree' room bytes places lines : List ℕ) (w r p : ℕ) → w ≡ min (length work) (2 ^ 20) → r ≡ min (length room) (2 ^ 20) → p ≡ min (length places) (2 ^ 18)
+    → (z : Sizes) → AgreesScenario (scenario (length (take w work)) (length (take r room)) (length (take p places)) text) (take w work) tree' (take r room) bytes (take p places) lines (Ok z)
+    → LentTold (scenario (length work) (length room) (length places) text) work tree' room bytes places lines w r p (Read z.tree_bytes z.record_bytes z.line_bytes z.steps)
+unfolding sizes_of output tree_bytes record_bytes step_numbers
+lent-read text work tree' room bytes places lines w r p i j k z got =
+    let is = sym (same-lent text work room places w r p i j k) ∙ got.is in
+    let hw : w ≤ length work = omega (arith, i) in
+    let hr : r ≤ length room = omega (arith, j) in
+    let hp : p ≤ length places = omega (arith, k) in
+    record {
+      answer = rw (is, got.lines_size, got.tree_size, got.record_size)
+          (ap (λ (k : ℕ). good (length (encode got.read.tree), length (record_of got.read.meaning), 4 * k, z.steps)) got.lines_many
+          ∙ ap (λ (k : ℕ). good (length (encode got.read.tree), length (record_of got.read.meaning), 4 * length got.read.lines, k)) got.steps_many);
+      tree_left = rw is (ap (λ (b : List ℕ). b ++ drop w work) got.tree_stored ∙ output-is work (encode got.read.tree) w hw (omega (arith, got.tree_size, got.tree_fits, length-take-le w work hw)));
+      record_left = rw is (ap (λ (b : List ℕ). b ++ drop r room) got.record_stored ∙ output-is room (record_of got.read.meaning) r hr (omega (arith, got.record_size, got.record_fits, length-take-le r room hr)));
+      lines_left = rw is (ap (λ (b : List ℕ). b ++ drop p places) got.lines_stored ∙ output-is places got.read.lines p hp (omega (arith, got.lines_many, got.lines_fit, length-take-le p places hp)));
+    }
 
 module _ (x : Answer Reading) (z : Refusal) (s : x ≡ refusal z) where
   pub refused_told : answer_of (Unread z) ≡ sizes_of x
   unfolding sizes_of
   refused_told = rw s
 
-  pub zeros-out : (write : Reading → List ℕ) (old new : List ℕ) (n : ℕ) → n ≤ length old → length new ≡ length (take n old)
-      → replicate (length (new ++ drop n old)) 0 ≡ output write x old
+  pub zeros-out : (write : Reading → List ℕ) (old new : List ℕ) (n : ℕ) → length new ≡ length (take n old) → replicate (length (new ++ drop n old)) 0 ≡ output write x old
   unfolding output
-  zeros-out write old new n h k = rw (s, lent_length old new n h k)
+  zeros-out write old new n h = rw (s, length_front old new n h)

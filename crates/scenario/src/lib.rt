@@ -77,6 +77,7 @@ fn put_steps(
             return Err(Refusal::StepNotMapping { step: number });
         };
         let dash = next_dash(text, next, first.indent);
+        // Written out, since this turn of the walk tells that it is one; a walk over nodes would be an iterator of its own.
         let node = Node {
             bytes: part.bytes,
             item,
@@ -109,7 +110,8 @@ fn put_record(
     Ok(steps)
 }
 
-// What a job lends is lent on as it is, one by one, since the clauses name each.
+// What a job lends is lent on as it is, one by one, since the clauses name each. That each is short is required here alone, where slices are
+// made so, and no type says it.
 fn read(
     text: &[u8],
     work: &mut [u8],

@@ -4,9 +4,8 @@ use Rattle.std.specs.Prelude.{if◌then◌else◌, get_or, Option, None, Some, I
 use Rattle.std.specs.List.{sum_by}
 use Rattle.std.proofs.lemmas.List.Recursion.{is_sum_by, max_bounds, max_least}
 use Rattle.std.proofs.Common.{◌≡◌, refl, sym, ap, ◌∙◌, ℕ, zero, suc, ◌+◌, ◌*◌, ◌-◌, ◌/◌, ◌≤◌, ◌<◌, min, add-zero, mul-suc, div-mul-le_self, arith, ◌⊎◌, inl, inr, ⊎_elim, List, [], ◌∷◌, Bool, true, false, ◌&&◌, ltb, length, ltb-true, ltb-false, le-leb}
-use Rattle.std.proofs.lemmas.Bool.{lt-leb}
+use Rattle.std.proofs.lemmas.Bool.{lt-leb, cases_lt}
 use Rattle.refusal.specs.Base.{good, refused, ◌>>=◌, ◌>>◌, ensure}
-use Rattle.refusal.proofs.Tools.{split}
 use Rattle.share.specs.Share.{Drum, gots, sum, up_to, first_shares, stroke, round, rounds, shares, eight, greatest, share}
 use Rattle.share.specs.Contract.{Whole}
 
@@ -76,7 +75,7 @@ served rest w t =
     record {
       within = omega arith;
       wanted = omega arith;
-      enough = ⊎_elim (λ h. inr (omega arith)) (λ h. inl (omega arith)) (split 0 rest);
+      enough = ⊎_elim (λ h. inr (omega arith)) (λ h. inl (omega arith)) (cases_lt 0 rest);
     }
 
 -- with enough left it is whole, drum by drum
@@ -146,7 +145,7 @@ module _ {ws : List ℕ} {allowed n rest : ℕ} (w : Whole ws allowed n rest) wh
   reaches t h fits = ⊎_elim
       (λ l. ⊎_elim (λ e. omega arith) (λ k. omega (arith, up_to-more (suc n) t ws l)) w.last)
       (λ l. l)
-      (split n t)
+      (cases_lt n t)
 
   rounds-are : (k t : ℕ) → t ≤ n → greatest ws ≤ t + k → rounds k allowed (up_to t ws) ≡ final
   unfolding rounds
@@ -158,7 +157,7 @@ module _ {ws : List ℕ} {allowed n rest : ℕ} (w : Whole ws allowed n rest) wh
       (λ m. rw (round_whole t (allowed - sum (gots (up_to t ws))) ws (omega (arith, up_to-more t (suc t) ws (omega arith), up_to-more (suc t) n ws m, w.fits)))
       (rounds-are k (suc t) m (omega arith)))
       (λ m. let e : t ≡ n = omega arith in rw e (rounds-same k allowed final final-same))
-      (split t n)
+      (cases_lt t n)
 
   -- the first shares are whole rounds too
   pub first-reaches : min (allowed / length ws) (greatest ws) ≤ n

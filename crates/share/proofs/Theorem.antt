@@ -4,8 +4,9 @@ use Rattle.std.proofs.Math.ListN.{get_or-append}
 use Rattle.std.proofs.lemmas.Grind.{common_steps}
 use Rattle.std.proofs.lemmas.List.{places, get_or_past, length-replicate}
 use Rattle.std.proofs.lemmas.List.Recursion.{is_sum_by}
+use Rattle.std.proofs.lemmas.Bool.{cases_lt}
 use Rattle.refusal.specs.Base.{good}
-use Rattle.refusal.proofs.Tools.{good-inj, refused≢good, split}
+use Rattle.refusal.proofs.Tools.{good-inj, refused≢good}
 use Rattle.share.specs.Share.{Drum, gots, sum, up_to, stroke, round, shares, eight, greatest, share, Fair, Beat, AllFair}
 use Rattle.share.specs.Contract.{Whole}
 use Rattle.share.proofs.Laws.{stroke_is, up_to_none, up_to-wished, full-sum, round-part, greatest_bounds, full-final, first-reaches, shares-are}
@@ -45,7 +46,7 @@ module _ (ws : List ℕ) (allowed : ℕ) where
       go (suc n) h l = ⊎_elim
           (λ over. go n (omega arith) (inr over))
           (λ fits. k (suc n) (record { fits = fits; left = refl; small = h; last = l }))
-          (split allowed (sum (gots (up_to (suc n) ws))))
+          (cases_lt allowed (sum (gots (up_to (suc n) ws))))
 
   module _ (few : length ws ≤ 8) (ok : greatest ws ≤ 255) where
     fair-round : (n : ℕ) → Whole ws allowed n (allowed - sum (gots (up_to n ws))) → Fair ws allowed (eight (gots (round (allowed - sum (gots (up_to n ws))) (up_to n ws))))
@@ -89,10 +90,10 @@ module _ (ws : List ℕ) (allowed : ℕ) where
       (λ ok. ⊎_elim
       (λ little. refused≢good ns 62 0 0 (sym (too_little ws allowed some few ok little) ∙ e))
       (λ enough. rw (good-inj _ ns (sym (shared ws allowed some few ok enough) ∙ e)) at (fair-shares few ok))
-      (split allowed (length ws)))
-      (split 255 (greatest ws)))
-      (split 8 (length ws)))
-      (split (length ws) 1)
+      (cases_lt allowed (length ws)))
+      (cases_lt 255 (greatest ws)))
+      (cases_lt 8 (length ws)))
+      (cases_lt (length ws) 1)
 
 pub all_fair : (beats : List Beat) → AllFair beats
 unfolding AllFair

@@ -25,6 +25,7 @@ pub enum ShareAnswer {
 }
 
 /// What eight drums get, in their order: 0 for those that are not there, and for all on a refusal.
+// The numbers stand beside the answer and not in `Given`, since C has eight of them written on a refusal too.
 #[derive(Clone, Copy, Debug, PartialEq, Eq)]
 pub struct Shares {
     pub answer: ShareAnswer,

@@ -1,6 +1,10 @@
 -- A walk along entries: what the entries passed say of the step fields and of the command. Assumes nothing.
-use Rattle.std.specs.Prelude.{Some, None, if◌then◌else◌}
-use Rattle.std.proofs.Common.{Bor, arith, subst, ◌⊎◌, inl, inr, ◌≡◌, refl, ap, sym, ◌∙◌, ℕ, ◌-◌, ◌≤◌, List, Bool, true, false, ◌||◌, length, take, drop}
+use Rattle.std.specs.Prelude.{Option as Maybe, Some, None, Result, Ok, if◌then◌else◌}
+use Rattle.item.specs.declared.walk.Walk.{Walk}
+use Rattle.item.specs.Walk.{Gives}
+use Rattle.item.specs.declared.Broken.{Broken}
+use Rattle.entries.specs.Entries.{pair_at}
+use Rattle.std.proofs.Common.{Bor, arith, subst, ◌⊎◌, inl, inr, ◌≡◌, refl, ap, sym, ◌∙◌, ℕ, ◌-◌, ◌≤◌, List, Bool, true, false, length, take, drop, ◌^◌}
 use Rattle.std.proofs.Math.Option.{some}
 use Rattle.refusal.specs.Base.{refused, one_of, same, bytes}
 use Rattle.item.specs.Tree.{Yaml, Entries, done, pair, get}
@@ -9,25 +13,15 @@ use Rattle.item.specs.declared.encoded.Part.{Part}
 use Rattle.item.specs.declared.Found.TheVariants as found
 use Rattle.entries.specs.Entries.{Holds, Finds, FoundAt}
 use Rattle.entries.specs.declared.Pair.{Pair}
-use Rattle.entries.proofs.Walking.{no_more, first-ranged, others-ranged, Turn}
+use Rattle.entries.proofs.Walking.{step, turn, no_more, first-ranged, others-ranged, Turn}
 use Rattle.meaning.specs.Meaning.{step_fields}
 use Rattle.meaning.specs.Meanings.{commands, command_of}
 use Rattle.step.specs.declared.Command.{Command}
 use Rattle.step.specs.declared.Command.TheVariants.{Nothing, One, More}
-use Rattle.step.specs.Contract.{EntryAt, OneCommand, AgreesCommand, field_with, command_with}
-
--- the key of a step field, test by test
-pub one_field : (w : List ℕ) → same w (bytes "name") || same w (bytes "id") || same w (bytes "timeout") || same w (bytes "continue_on_error") || same w (bytes "expect") ≡ one_of w step_fields
-unfolding one_of step_fields
-one_field w = go (same w (bytes "name")) (same w (bytes "id")) (same w (bytes "timeout")) (same w (bytes "continue_on_error")) (same w (bytes "expect"))
-  where
-    go : (a b c d e : Bool) → a || b || c || d || e ≡ a || (b || (c || (d || (e || false))))
-    go true b c d e = refl
-    go false true c d e = refl
-    go false false true d e = refl
-    go false false false true e = refl
-    go false false false false true = refl
-    go false false false false false = refl
+use Rattle.step.specs.declared.StepField.{StepField}
+use Rattle.step.specs.declared.StepField.TheVariants.{Name, Id, Timeout, Continues, Expect}
+use Rattle.step.specs.Contract.{EntryAt, OneCommand, AgreesCommand, step_field, field_with, command_with}
+use Rattle.item.proofs.Same.{same-eq}
 
 -- what was found so far
 pub record Places : Type 0 where
@@ -38,25 +32,51 @@ pub record Places : Type 0 where
   pub expect : Found
   pub command : Command
 
+-- with one entry more, which may be the one that counts
+abbrev field_if : Found → Bool → ℕ → Found
+field_if field true value = field_with field value
+field_if field false value = field
+
+abbrev command_if : Command → Bool → ℕ → ℕ → Command
+command_if command true key value = command
+command_if command false key value = command_with command key value
+
 -- that with one entry more, whose key is `k`
-abbrev pub places_with : Places → List ℕ → ℕ → ℕ → Places
+abbrev places_with : Places → List ℕ → ℕ → ℕ → Places
 places_with f k key value = record {
-  name = field_with f.name (same k (bytes "name")) value;
-  id = field_with f.id (same k (bytes "id")) value;
-  timeout = field_with f.timeout (same k (bytes "timeout")) value;
-  continues = field_with f.continues (same k (bytes "continue_on_error")) value;
-  expect = field_with f.expect (same k (bytes "expect")) value;
-  command = command_with f.command (one_of k step_fields) key value;
+  name = field_if f.name (same k (bytes "name")) value;
+  id = field_if f.id (same k (bytes "id")) value;
+  timeout = field_if f.timeout (same k (bytes "timeout")) value;
+  continues = field_if f.continues (same k (bytes "continue_on_error")) value;
+  expect = field_if f.expect (same k (bytes "expect")) value;
+  command = command_if f.command (one_of k step_fields) key value;
 }
 
--- the same part by part
-module _ (f : Places) (w : List ℕ) (key value : ℕ) where
-  pub more-places : {a b c d e : Bool} {name id timeout continues expect : Found} {command : Command}
-      → a ≡ same w (bytes "name") → b ≡ same w (bytes "id") → c ≡ same w (bytes "timeout") → d ≡ same w (bytes "continue_on_error") → e ≡ same w (bytes "expect")
-      → name ≡ field_with f.name a value → id ≡ field_with f.id b value → timeout ≡ field_with f.timeout c value → continues ≡ field_with f.continues d value → expect ≡ field_with f.expect e value
-      → command ≡ command_with f.command (a || b || c || d || e) key value
-      → ◌≡◌ {A = Places} (record { name = name; id = id; timeout = timeout; continues = continues; expect = expect; command = command }) (places_with f w key value)
-  more-places a b c d e n i t k x o = rw (n, i, t, k, x, o, a, b, c, d, e, one_field w)
+-- the same by the field that the key is
+abbrev pub places_by : Places → Maybe StepField → ℕ → ℕ → Places
+places_by f (Some Name) key value = record { name = field_with f.name value; id = f.id; timeout = f.timeout; continues = f.continues; expect = f.expect; command = f.command }
+places_by f (Some Id) key value = record { name = f.name; id = field_with f.id value; timeout = f.timeout; continues = f.continues; expect = f.expect; command = f.command }
+places_by f (Some Timeout) key value = record { name = f.name; id = f.id; timeout = field_with f.timeout value; continues = f.continues; expect = f.expect; command = f.command }
+places_by f (Some Continues) key value = record { name = f.name; id = f.id; timeout = f.timeout; continues = field_with f.continues value; expect = f.expect; command = f.command }
+places_by f (Some Expect) key value = record { name = f.name; id = f.id; timeout = f.timeout; continues = f.continues; expect = field_with f.expect value; command = f.command }
+places_by f None key value = record { name = f.name; id = f.id; timeout = f.timeout; continues = f.continues; expect = f.expect; command = command_with f.command key value }
+
+-- no two words are the same, so that the first test that holds is the only one
+places-are : (f : Places) (k : List ℕ) (key value : ℕ) → places_with f k key value ≡ places_by f (step_field k) key value
+unfolding step_field one_of step_fields same bytes
+places-are f k key value = go _ refl _ refl _ refl _ refl _ refl
+  where
+    word : (w : List ℕ) → same k w ≡ true → places_with f w key value ≡ places_by f (step_field w) key value → places_with f k key value ≡ places_by f (step_field k) key value
+    word w t e = subst (λ (k : List ℕ). places_with f k key value ≡ places_by f (step_field k) key value) (sym (same-eq k w t)) e
+
+    go : (a : Bool) → same k (bytes "name") ≡ a → (b : Bool) → same k (bytes "id") ≡ b → (c : Bool) → same k (bytes "timeout") ≡ c
+        → (d : Bool) → same k (bytes "continue_on_error") ≡ d → (e : Bool) → same k (bytes "expect") ≡ e → places_with f k key value ≡ places_by f (step_field k) key value
+    go true t b u c v d w e x = word _ t refl
+    go false t true u c v d w e x = word _ u refl
+    go false t false u true v d w e x = word _ v refl
+    go false t false u false v true w e x = word _ w refl
+    go false t false u false v false w true x = word _ x refl
+    go false t false u false v false w false x = rw (t, u, v, w, x) refl
 
 -- ---- what is known where the entries `rest` are left of `es`
 
@@ -104,10 +124,10 @@ not-one s cs Nothing o a = a
 not-one s cs (One key value) o a = absurd (o key value refl)
 not-one s cs More o a = a
 
-pub one_more : (c : Command) (b : Bool) (key value : ℕ) → b ≡ false → (c ≡ Nothing → ⊥) → More ≡ command_with c b key value
-one_more Nothing b key value e o = absurd (o refl)
-one_more (One k v) b key value e o = rw e
-one_more More b key value e o = rw e
+pub one_more : (c : Command) (key value : ℕ) → (c ≡ Nothing → ⊥) → More ≡ command_with c key value
+one_more Nothing key value o = absurd (o refl)
+one_more (One k v) key value o = refl
+one_more More key value o = refl
 
 command-end : (s : List ℕ) (es rest : Entries) (c : Command) → rest ≡ done → CommandLeft s es rest c → AgreesFound s (commands es) c
 unfolding command_of commands
@@ -139,19 +159,23 @@ walk_end {s} {es = es} {f = f} l m =
 -- ---- one entry more
 
 module _ {s : List ℕ} {to at : ℕ} {p : Pair} (es : Entries) {rest : Entries} (h : Holds s at to rest) (t : Turn s at to rest p) where
-  field-on : (k : List ℕ) (o : Found) → FieldLeft s k es rest o → FieldLeft s k es t.entry.others (field_with o (same (take (p.end - p.start) (drop p.start s)) k) p.end)
+  field-on : (k : List ℕ) (o : Found) → FieldLeft s k es rest o → FieldLeft s k es t.entry.others (field_if o (same (take (p.end - p.start) (drop p.start s)) k) p.end)
   unfolding get
-  field-on k (found.At q) l = l
+  field-on k (found.At q) l = go (same (take (p.end - p.start) (drop p.start s)) k)
+    where
+      go : (b : Bool) → FieldLeft s k es t.entry.others (field_if (found.At q) b p.end)
+      go true = l
+      go false = l
   field-on k found.Nothing l = go (same (take (p.end - p.start) (drop p.start s)) k) refl
     where
       here : {b : Bool} → same (take (p.end - p.start) (drop p.start s)) k ≡ b → get k es ≡ (if b then some t.entry.v else get k t.entry.others)
       here e = l ∙ ap (get k) t.entry.is ∙ rw (ap (λ (w : List ℕ). same w k) (sym t.key_is) ∙ e)
 
-      go : (b : Bool) → same (take (p.end - p.start) (drop p.start s)) k ≡ b → FieldLeft s k es t.entry.others (field_with found.Nothing b p.end)
+      go : (b : Bool) → same (take (p.end - p.start) (drop p.start s)) k ≡ b → FieldLeft s k es t.entry.others (field_if found.Nothing b p.end)
       go true e = record { value = t.entry.v; is = here e; ranged = first-ranged t.entry h.ranged; stands = t.value }
       go false e = here e
 
-  command-on : p.start ≤ p.end → (c : Command) → CommandLeft s es rest c → CommandLeft s es t.entry.others (command_with c (one_of (take (p.end - p.start) (drop p.start s)) step_fields) p.start p.end)
+  command-on : p.start ≤ p.end → (c : Command) → CommandLeft s es rest c → CommandLeft s es t.entry.others (command_if c (one_of (take (p.end - p.start) (drop p.start s)) step_fields) p.start p.end)
   unfolding commands command_of
   command-on o c l = go c (one_of (take (p.end - p.start) (drop p.start s)) step_fields) refl l
     where
@@ -161,7 +185,7 @@ module _ {s : List ℕ} {to at : ℕ} {p : Pair} (es : Entries) {rest : Entries}
       entry : EntryAt s p.start p.end t.entry.k t.entry.v
       entry = record { order = o; key = t.key_is; ranged = first-ranged t.entry h.ranged; value = t.value }
 
-      go : (c : Command) (b : Bool) → one_of (take (p.end - p.start) (drop p.start s)) step_fields ≡ b → CommandLeft s es rest c → CommandLeft s es t.entry.others (command_with c b p.start p.end)
+      go : (c : Command) (b : Bool) → one_of (take (p.end - p.start) (drop p.start s)) step_fields ≡ b → CommandLeft s es rest c → CommandLeft s es t.entry.others (command_if c b p.start p.end)
       go Nothing true e l = l ∙ here e
       go (One key value) true e l = record { k = l.k; v = l.v; is = l.is ∙ ap (pair l.k l.v) (here e); entry = l.entry }
       go More true e l = l
@@ -170,8 +194,8 @@ module _ {s : List ℕ} {to at : ℕ} {p : Pair} (es : Entries) {rest : Entries}
       go More false e l = l
 
 pub walk-on : {s : List ℕ} {to at : ℕ} {p : Pair} {es : Entries} {f : Places} (l : Left s to at es f) (t : Turn s at to l.rest p) → p.start ≤ p.end
-    → Left s to p.next es (places_with f (take (p.end - p.start) (drop p.start s)) p.start p.end)
-walk-on {es = es} {f = f} l t o = record {
+    → {r : Maybe StepField} → r ≡ step_field (take (p.end - p.start) (drop p.start s)) → Left s to p.next es (places_by f r p.start p.end)
+walk-on {s} {to} {p = p} {es = es} {f = f} l t o e = rw (e, ← places-are f (take (p.end - p.start) (drop p.start s)) p.start p.end) (record {
   rest = t.entry.others;
   holds = record { ranged = others-ranged t.entry l.holds.ranged; lies = t.behind };
   name = field-on es l.holds t (bytes "name") f.name l.name;
@@ -180,7 +204,22 @@ walk-on {es = es} {f = f} l t o = record {
   continue = field-on es l.holds t (bytes "continue_on_error") f.continues l.continue;
   expect = field-on es l.holds t (bytes "expect") f.expect l.expect;
   command = command-on es l.holds t o f.command l.command;
-}
+})
+
+-- what is known in the loop: of whatever entries stand there
+abbrev pub Walked : List ℕ → ℕ → ℕ → Walk Pair → Places → Type 0
+Walked s from to walk f = (walk.bytes.now ≡ s) × (walk.to ≡ to) × ((es : Entries) → Holds s from to es → Left s to walk.at es f)
+
+pub turned : (old new : Walk Pair) {s : List ℕ} {from to : ℕ} {f g : Places} {given : Result Pair Broken} {p : Pair} {r : Maybe StepField} → length s ≤ 2 ^ 20 → Walked s from to old f → Gives pair_at (λ (q : Pair). q.next) old (Some given) new → given ≡ Ok p
+    → r ≡ step_field (take (p.end - p.start) (drop p.start s)) → g ≡ places_by f r p.start p.end → Walked s from to new g
+turned old new w i gives e key after =
+    let t = step old new i.0 i.1 gives e in (
+      t.bytes,
+      t.end,
+      λ es h.
+          let l = i.2 es h in
+          rw (t.next, after) (walk-on l (turn l.rest w t.before t.is l.holds.lies) t.places.key key),
+    )
 
 -- ---- how many commands
 

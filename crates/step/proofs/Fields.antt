@@ -61,7 +61,7 @@ expect-kind {o} {node} f = go (eqb node.item.kind 5) refl
     go : (b : Bool) → eqb node.item.kind 5 ≡ b → AgreesExpect o b
     go true e =
         let m = entries-of f.value f.node_is.ranged f.node_is.item_is.stands f.node_is.item_is.ends (sym f.node_is.item_is.kind_is ∙ eqb-true _ _ e) in
-        (some m.entries, f.is ∙ ap some m.is)
+        (some m.inner, f.is ∙ ap some m.is)
     go false e = λ line n. ap (expect_of line n) f.is ∙ other-expect line n f.value (λ k. eqb-false _ _ e (f.node_is.item_is.kind_is ∙ k))
 
 pub none-or-mapping : (o : Option Yaml) (v : Maybe Node) (r : Bool) (Gives : Node → Type 0)

@@ -1,8 +1,8 @@
 -- Section 4 of document 01, for contracts: what the readers and the writers of a step promise. Uses Base and Told of `refusal`; Tree and
 -- Encode of `item`; Entries of `entries`; Meaning and Meanings of `meaning`; Contract of `nodes`. Assumes nothing.
-use Rattle.std.specs.Prelude.{◌≡◌, ℕ, ◌-◌, ◌≤◌, List, Bool, true, false, take, drop, Result, Ok, Err, Option as Maybe, Some, None}
+use Rattle.std.specs.Prelude.{◌≡◌, ℕ, ◌-◌, ◌≤◌, List, Bool, true, false, if◌then◌else◌, take, drop, Result, Ok, Err, Option as Maybe, Some, None}
 use Rattle.std.proofs.Math.Option.{Option, none, some}
-use Rattle.refusal.specs.Base.{Answer, good, refused, ensure, bytes}
+use Rattle.refusal.specs.Base.{Answer, good, refused, ensure, bytes, same}
 use Rattle.refusal.specs.Told.{refusal}
 use Rattle.refusal.specs.declared.Refusal.{Refusal}
 use Rattle.item.specs.Tree.{Yaml, dict, Entries, Ranged, get}
@@ -17,6 +17,8 @@ use Rattle.meaning.specs.Meaning.{Step}
 use Rattle.meaning.specs.Meanings.{expect_of, commands, command_of, expect_allowed, is_true}
 use Rattle.step.specs.declared.Command.{Command}
 use Rattle.step.specs.declared.Command.TheVariants.{Nothing, One, More}
+use Rattle.step.specs.declared.StepField.{StepField}
+use Rattle.step.specs.declared.StepField.TheVariants.{Name, Id, Timeout, Continues, Expect}
 use Rattle.step.specs.declared.parts.StepFields.{StepFields}
 use Rattle.step.specs.declared.parts.StepNodes.{StepNodes}
 use Rattle.step.specs.declared.StepEntries.{StepEntries}
@@ -105,17 +107,29 @@ AgreesCommand cs None = (n : ℕ) → command_of n cs ≡ refused 34 0 n
 
 -- ---- the fields of entries
 
--- with one entry more: the first of a key counts
-abbrev pub field_with : Found → Bool → ℕ → Found
-field_with (found.At p) same value = found.At p
-field_with found.Nothing true value = found.At value
-field_with found.Nothing false value = found.Nothing
+unfoldable pub step_field : List ℕ → Maybe StepField
+step_field k =
+    if same k (bytes "name")
+    then Some Name
+    else if same k (bytes "id")
+    then Some Id
+    else if same k (bytes "timeout")
+    then Some Timeout
+    else if same k (bytes "continue_on_error")
+    then Some Continues
+    else if same k (bytes "expect")
+    then Some Expect
+    else None
 
-abbrev pub command_with : Command → Bool → ℕ → ℕ → Command
-command_with command true key value = command
-command_with Nothing false key value = One key value
-command_with (One k v) false key value = More
-command_with More false key value = More
+-- with one entry more of its key: the first counts
+abbrev pub field_with : Found → ℕ → Found
+field_with (found.At p) value = found.At p
+field_with found.Nothing value = found.At value
+
+abbrev pub command_with : Command → ℕ → ℕ → Command
+command_with Nothing key value = One key value
+command_with (One k v) key value = More
+command_with More key value = More
 
 -- what is known of entries
 pub record AgreesFields (es : Entries) (f : StepFields) : Type 0 where

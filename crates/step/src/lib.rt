@@ -10,7 +10,7 @@ ghost use Rattle.nodes.specs.Contract.{NodeOf, FindsNode, AgreesPart};
 ghost use Rattle.meaning.specs.Meaning.{Step};
 ghost use Rattle.meaning.specs.Record.{step_item};
 ghost use Rattle.meaning.specs.Meanings.{is_true, step_of, step_at};
-ghost use Rattle.step.specs.Contract.{StepStands, AgreesStep, AgreesExpect, AgreesAllowed, AgreesEntries, EntriesInside, StepInside, StandsAs, field_with, command_with};
+ghost use Rattle.step.specs.Contract.{StepStands, AgreesStep, AgreesExpect, AgreesAllowed, AgreesEntries, EntriesInside, StepInside, StandsAs, step_field, field_with, command_with};
 
 mod parts;
 
@@ -20,6 +20,16 @@ use meaning::is_built_in;
 use nodes::{Node, RecordWriter, Scalar, put_optional, put_text, put_value};
 pub use parts::{StepFields, StepNodes};
 use refusal::Refusal;
+
+// The keys of the step fields.
+#[derive(Clone, Copy, Debug, PartialEq, Eq)]
+enum StepField {
+    Name,
+    Id,
+    Timeout,
+    Continues,
+    Expect,
+}
 
 // The entries whose key is no step field: none, one, or more.
 #[derive(Clone, Copy, Debug, PartialEq, Eq)]
@@ -36,24 +46,42 @@ struct StepEntries<'a> {
     command: Option<Part<'a>>,
 }
 
-// A field with one entry more: `same` says whether the entry has the field's key. A Boolean, as in the definition: the walk asks each word
-// once, so `Found` stays two words.
-fn field_with(field: Found, same: bool, value: usize) -> Found
-    ensures { result ≡ field_with field same value }
-{
-    match field {
-        Found::Nothing if same => Found::At(value),
-        Found::Nothing | Found::At(_) => field,
+impl StepField {
+    // Word by word, as top's `DefaultKey`.
+    #[tactic(auto, unfolding(crate::specs::Contract::step_field, refusal::specs::Base::bytes))]
+    fn of(key: &[u8]) -> Option<StepField>
+        ensures { result ≡ step_field key.now }
+    {
+        if same_bytes(key, b"name") {
+            Some(StepField::Name)
+        } else if same_bytes(key, b"id") {
+            Some(StepField::Id)
+        } else if same_bytes(key, b"timeout") {
+            Some(StepField::Timeout)
+        } else if same_bytes(key, b"continue_on_error") {
+            Some(StepField::Continues)
+        } else if same_bytes(key, b"expect") {
+            Some(StepField::Expect)
+        } else {
+            None
+        }
     }
 }
 
-// The command with one entry more: `is_field` says whether the entry has the key of a step field, which the walk has asked once for both.
-fn command_with(command: Command, is_field: bool, key: usize, value: usize) -> Command
-    ensures { result ≡ command_with command is_field key value }
+// A field with one entry more of its key, whose value begins at `value`: the first counts.
+fn field_with(field: Found, value: usize) -> Found
+    ensures { result ≡ field_with field value }
 {
-    if is_field {
-        return command;
+    match field {
+        Found::Nothing => Found::At(value),
+        Found::At(_) => field,
     }
+}
+
+// The command with one entry more.
+fn command_with(command: Command, key: usize, value: usize) -> Command
+    ensures { result ≡ command_with command key value }
+{
     match command {
         Command::Nothing => Command::One { key, value },
         Command::One { .. } | Command::More => Command::More,
@@ -77,19 +105,14 @@ fn entries_in(part: Part<'_>) -> StepEntries<'_>
         let Ok(pair) = pair else {
             break;
         };
-        let word = &part.bytes[pair.start..pair.end];
-        let is_name = same_bytes(word, b"name");
-        let is_id = same_bytes(word, b"id");
-        let is_timeout = same_bytes(word, b"timeout");
-        let is_continues = same_bytes(word, b"continue_on_error");
-        let is_expect = same_bytes(word, b"expect");
-        let is_field = is_name | is_id | is_timeout | is_continues | is_expect;
-        name = field_with(name, is_name, pair.end);
-        id = field_with(id, is_id, pair.end);
-        timeout = field_with(timeout, is_timeout, pair.end);
-        continues = field_with(continues, is_continues, pair.end);
-        expect = field_with(expect, is_expect, pair.end);
-        command = command_with(command, is_field, pair.start, pair.end);
+        match StepField::of(&part.bytes[pair.start..pair.end]) {
+            Some(StepField::Name) => name = field_with(name, pair.end),
+            Some(StepField::Id) => id = field_with(id, pair.end),
+            Some(StepField::Timeout) => timeout = field_with(timeout, pair.end),
+            Some(StepField::Continues) => continues = field_with(continues, pair.end),
+            Some(StepField::Expect) => expect = field_with(expect, pair.end),
+            None => command = command_with(command, pair.start, pair.end),
+        }
     }
     let s = part.encoded();
     StepEntries {

@@ -9,7 +9,8 @@ ghost use Rattle.step_lines.specs.Contract.{Begins, Next};
 use item::same_bytes;
 use lines::Lines;
 
-/// Where the steps begin: the line, and its indentation; the line behind the last, and 0, where there are none, since no dash stands there.
+/// Where the steps begin: the line, and its indentation; the line behind the last, and 0, where there are none.
+// No Option: `next_dash` from there on finds none, so a caller need not ask.
 #[derive(Clone, Copy, Debug, PartialEq, Eq)]
 pub struct Dashes {
     pub at: usize,
@@ -66,26 +67,22 @@ pub fn first_dash(lines: &Lines<'_>) -> Dashes
 }
 
 /// The line of the next dash from line `i` on; 0 where none comes before a line less indented.
-// A loop and no `find`, since a line ends it in one of two ways.
-#[tactic(auto, using(crate::proofs::Laws::dash_on))]
 pub fn next_dash(lines: &Lines<'_>, i: usize, indent: usize) -> StepLine
     requires { i ≤ length lines.now }
     ensures { Next lines.now (length lines.now) indent i result }
 {
     let count = lines.len();
-    for d in i..count {
-        if lines.indent(d) < indent {
-            break;
-        }
-        if lines.dash_at(d, indent) {
-            return StepLine {
-                line: lines.number(d),
-                next: d + 1,
-            };
-        }
-    }
-    StepLine {
-        line: 0,
-        next: count,
+    let dash = (i..count)
+        .take_while(|&d| lines.indent(d) >= indent)
+        .find(|&d| lines.dash_at(d, indent));
+    match dash {
+        Some(d) => StepLine {
+            line: lines.number(d),
+            next: d + 1,
+        },
+        None => StepLine {
+            line: 0,
+            next: count,
+        },
     }
 }

@@ -1,17 +1,20 @@
 -- The walk along the defaults, and their item. Assumes nothing.
-use Rattle.std.specs.Prelude.{if◌then◌else◌, Option as Maybe, Some, None}
+use Rattle.std.specs.Prelude.{if◌then◌else◌, Option as Maybe, Some, None, Result, Ok, IfSome, IsSomeAnd}
 use Rattle.std.proofs.lemmas.Bool.{false≢true}
-use Rattle.std.proofs.Common.{◌≡◌, ◌≢◌, refl, sym, ap, ◌∙◌, subst, ℕ, ◌+◌, ◌-◌, ◌≤◌, arith, eqb, ◌||◌, List, append-nil, Bool, true, false, take, drop}
+use Rattle.std.proofs.Common.{Bor, length, ◌^◌, ◌≡◌, ◌≢◌, refl, sym, ap, ◌∙◌, ℕ, ◌+◌, ◌-◌, ◌≤◌, arith, eqb, ◌||◌, List, append-nil, Bool, true, false, take, drop}
 use Rattle.std.proofs.Math.Option.{Option, none, some}
 use Rattle.refusal.specs.Base.{Answer, good, refused, ◌>>=◌, maybe, bytes, same}
-use Rattle.item.specs.Tree.{Yaml, null, bool, int, str, seq, dict, Entries, pair}
+use Rattle.item.specs.Tree.{Yaml, null, bool, int, str, seq, dict, Entries, pair, Ranged}
+use Rattle.item.specs.Walk.{Gives}
+use Rattle.item.specs.declared.walk.Walk.{Walk}
+use Rattle.item.specs.declared.Broken.{Broken}
 use Rattle.item.specs.Encode.{encode, kind_of}
 use Rattle.item.specs.declared.encoded.Part.{Part}
 use Rattle.scalar.specs.Scalars.{key_text}
-use Rattle.entries.specs.Entries.{Holds}
+use Rattle.entries.specs.Entries.{Stands, Holds, pair_at}
 use Rattle.entries.specs.declared.Pair.{Pair}
 use Rattle.entries.proofs.Standing.{stands_at}
-use Rattle.entries.proofs.Walking.{no_more, others-ranged, Turn}
+use Rattle.entries.proofs.Walking.{no_more, first-ranged, others-ranged, Turn, Step, step, turn}
 use Rattle.nodes.specs.declared.node.Node.{Node}
 use Rattle.nodes.specs.declared.output.RecordWriter.{RecordWriter}
 use Rattle.nodes.specs.Writing.{Writes, Opens, Closes}
@@ -21,8 +24,9 @@ use Rattle.meaning.specs.Meaning as meaning
 use Rattle.meaning.specs.Record.{joined, optional, defaults_parts, defaults_item}
 use Rattle.meaning.specs.Meanings.{refuse, scalar_default, defaults_from, no_defaults, defaults_of}
 use Rattle.top.specs.declared.DefaultKey.{DefaultKey}
+use Rattle.top.specs.declared.DefaultNodes.{DefaultNodes}
 use Rattle.top.specs.declared.DefaultKey.TheVariants.{Timeout, WallBudget}
-use Rattle.top.specs.Contract.{no_null, default_key, DefaultsStand, IsDefaults}
+use Rattle.top.specs.Contract.{no_null, default_key, DefaultsInside, DefaultsStand, IsDefaults}
 
 -- ---- the walk
 
@@ -56,6 +60,15 @@ by_key_lem d k v es = go (same k (bytes "timeout")) (same k (bytes "wall_budget"
     go true b = refl
     go false true = refl
     go false false = refl
+
+-- what was found with one default more
+abbrev timeout_with : DefaultKey → Node → Maybe Node → Maybe Node
+timeout_with Timeout node timeout = Some node
+timeout_with WallBudget node timeout = timeout
+
+abbrev wall_with : DefaultKey → Node → Maybe Node → Maybe Node
+wall_with Timeout node wall_budget = wall_budget
+wall_with WallBudget node wall_budget = Some node
 
 abbrev collection : ℕ → Bool
 collection kind = eqb kind 4 || eqb kind 5
@@ -93,7 +106,8 @@ module _ {s : List ℕ} {to at : ℕ} {p : Pair} {es : Entries} {timeout wall_bu
   unfolding by_key
   default-unknown e = here e
 
-  module _ {node : Node} (b : node.bytes.now ≡ s) (q : node.item.from ≡ p.end + 6) (i : IsNode t.entry.v node) where
+  -- of a value that is read as this node, whichever default it is
+  module _ {node : Node} (b : node.bytes.now ≡ s) (q : node.item.from ≡ p.end + 6) (i : IsNode t.entry.v node) (key : DefaultKey) (d : Some key ≡ default_key (take (p.end - p.start) (drop p.start s))) where
     this : ReadsFound scalar_text (Some node) (key_text t.entry.v)
     unfolding maybe
     this = record {
@@ -105,33 +119,75 @@ module _ {s : List ℕ} {to at : ℕ} {p : Pair} {es : Entries} {timeout wall_bu
     by_kind : {c : Bool} → c ≡ collection node.item.kind → c ≡ collection (kind_of t.entry.v)
     by_kind e = e ∙ ap collection i.item_is.kind_is
 
-    pub timeout-bad : Some Timeout ≡ default_key (take (p.end - p.start) (drop p.start s)) → true ≡ collection node.item.kind → defaults_from no_defaults es ≡ refused 30 0 0
+    pub default-bad : true ≡ collection node.item.kind → defaults_from no_defaults es ≡ refused 30 0 0
     unfolding by_key ◌>>=◌
-    timeout-bad e h = here e ∙ rw (scalar-bad t.entry.v (by_kind h))
+    default-bad h = here d ∙ go key
+      where
+        go : (key : DefaultKey) → by_key (Some key) k.got t.entry.v t.entry.others ≡ refused 30 0 0
+        go Timeout = rw (scalar-bad t.entry.v (by_kind h))
+        go WallBudget = rw (scalar-bad t.entry.v (by_kind h))
 
-    pub wall-bad : Some WallBudget ≡ default_key (take (p.end - p.start) (drop p.start s)) → true ≡ collection node.item.kind → defaults_from no_defaults es ≡ refused 30 0 0
+    pub default-on : false ≡ collection node.item.kind → DefaultsRest s to p.next es (timeout_with key node timeout) (wall_with key node wall_budget)
     unfolding by_key ◌>>=◌
-    wall-bad e h = here e ∙ rw (scalar-bad t.entry.v (by_kind h))
+    default-on h = go key (here d)
+      where
+        go : (key : DefaultKey) → defaults_from no_defaults es ≡ by_key (Some key) k.got t.entry.v t.entry.others → DefaultsRest s to p.next es (timeout_with key node timeout) (wall_with key node wall_budget)
+        go Timeout e = record {
+          got = record { timeout = key_text t.entry.v; wall_budget = k.got.wall_budget };
+          rest = t.entry.others;
+          holds = behind;
+          is = e ∙ rw (scalar-good t.entry.v (by_kind h));
+          stands = record { timeout = this; wall_budget = k.stands.wall_budget };
+        }
+        go WallBudget e = record {
+          got = record { timeout = k.got.timeout; wall_budget = key_text t.entry.v };
+          rest = t.entry.others;
+          holds = behind;
+          is = e ∙ rw (scalar-good t.entry.v (by_kind h));
+          stands = record { timeout = k.stands.timeout; wall_budget = this };
+        }
 
-    pub timeout-on : Some Timeout ≡ default_key (take (p.end - p.start) (drop p.start s)) → false ≡ collection node.item.kind → DefaultsRest s to p.next es (Some node) wall_budget
-    unfolding by_key ◌>>=◌
-    timeout-on e h = record {
-      got = record { timeout = key_text t.entry.v; wall_budget = k.got.wall_budget };
-      rest = t.entry.others;
-      holds = behind;
-      is = here e ∙ rw (scalar-good t.entry.v (by_kind h));
-      stands = record { timeout = this; wall_budget = k.stands.wall_budget };
-    }
+-- ---- a turn of the walk
 
-    pub wall-on : Some WallBudget ≡ default_key (take (p.end - p.start) (drop p.start s)) → false ≡ collection node.item.kind → DefaultsRest s to p.next es timeout (Some node)
-    unfolding by_key ◌>>=◌
-    wall-on e h = record {
-      got = record { timeout = k.got.timeout; wall_budget = key_text t.entry.v };
-      rest = t.entry.others;
-      holds = behind;
-      is = here e ∙ rw (scalar-good t.entry.v (by_kind h));
-      stands = record { timeout = k.stands.timeout; wall_budget = this };
-    }
+-- what is known in the loop: the two found so far stand in the bytes, and whatever entries stand there, what is left of them
+abbrev pub Walked : List ℕ → ℕ → ℕ → Walk Pair → DefaultNodes → Type 0
+Walked s from to walk f = (walk.bytes.now ≡ s) × (walk.to ≡ to) × DefaultsInside s f × ((es : Entries) → Holds s from to es → DefaultsRest s to walk.at es f.timeout f.wall_budget)
+
+-- an entry whose key is a default, and its value as it is read
+module _ {all whole : Bor (List ℕ)} {from to : ℕ} {f : DefaultNodes} (old new : Walk Pair) (w : length all.now ≤ 2 ^ 20) (i : Walked all.now from to old f)
+    {given : Result Pair Broken} {p : Pair} (gives : Gives pair_at (λ (q : Pair). q.next) old (Some given) new) (is : given ≡ Ok p)
+    (e : whole ≡ all) {read : Maybe Node} {node : Node} (there : read ≡ Some node) (bytes : IfSome read (λ (n : Node). n.bytes ≡ whole)) (place : IfSome read (λ (n : Node). n.item.from ≡ p.end + 6))
+    (value : (y : Yaml) → Ranged y → Stands whole.now p.end (encode y) → IsSomeAnd read (IsNode y))
+    (key : DefaultKey) (d : Some key ≡ default_key (take (p.end - p.start) (drop p.start all.now))) where
+  now : Step all.now old.at to p new
+  now = step old new i.0 i.1 gives is
+
+  inside : node.bytes.now ≡ all.now
+  inside = ap (λ (b : Bor (List ℕ)). b.now) (rw there at bytes ∙ e)
+
+  is-node : {y : Yaml} → Ranged y → Stands all.now p.end (encode y) → IsNode y node
+  is-node {y} g st = rw there at (value y g (rw e st))
+
+  pub default-refused : true ≡ collection node.item.kind → (es : Entries) → Holds all.now from to es → defaults_from no_defaults es ≡ refused 30 0 0
+  default-refused h es holds =
+      let k = i.3 es holds in
+      let t = turn k.rest w now.before now.is k.holds.lies in
+      default-bad k t inside (rw there at place) (is-node (first-ranged t.entry k.holds.ranged) t.value) key d h
+
+  pub default-turned : {g : DefaultNodes} → false ≡ collection node.item.kind → g ≡ record { timeout = timeout_with key node f.timeout; wall_budget = wall_with key node f.wall_budget } → Walked all.now from to new g
+  default-turned h after = rw after (
+    now.bytes,
+    now.end,
+    go key,
+    λ es holds.
+        let k = i.3 es holds in
+        let t = turn k.rest w now.before now.is k.holds.lies in
+        rw now.next (default-on k t inside (rw there at place) (is-node (first-ranged t.entry k.holds.ranged) t.value) key d h),
+  )
+    where
+      go : (key : DefaultKey) → DefaultsInside all.now (record { timeout = timeout_with key node f.timeout; wall_budget = wall_with key node f.wall_budget })
+      go Timeout = record { timeout = inside; wall_budget = i.2.wall_budget }
+      go WallBudget = record { timeout = i.2.timeout; wall_budget = inside }
 
 pub defaults-done : {s : List ℕ} {to at : ℕ} {es : Entries} {timeout wall_budget : Maybe Node} → DefaultsRest s to at es timeout wall_budget → to ≤ at → IsDefaults (defaults_from no_defaults es) (record { timeout = timeout; wall_budget = wall_budget })
 unfolding defaults_from
@@ -140,10 +196,6 @@ defaults-done k m = record {
   is = k.is ∙ ap (defaults_from k.got) (no_more k.rest m k.holds.lies);
   stands = k.stands;
 }
-
-pub found-same : {s : List ℕ} {to at : ℕ} {es : Entries} {t t' w w' : Maybe Node} → t ≡ t' → w ≡ w' → DefaultsRest s to at es t' w' → DefaultsRest s to at es t w
-found-same {s} {to} {at} {es} {t} {t'} {w} {w'} e f k =
-    subst (λ (x : Maybe Node). DefaultsRest s to at es x w) (sym e) (subst (λ (x : Maybe Node). DefaultsRest s to at es t' x) (sym f) k)
 
 -- ---- by the kind of the value
 

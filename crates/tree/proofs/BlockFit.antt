@@ -1,10 +1,10 @@
 -- A block that is read with `l` levels left fits `l` levels. Assumes nothing.
-use Rattle.std.proofs.Common.{◌≡◌, refl, sym, ◌∙◌, subst, ℕ, zero, suc, ◌≤◌, ◌<◌, arith, List, [], ◌∷◌, Bool, true, false, ◌&&◌, not, eqb, ltb, length, take, drop}
-use Rattle.std.proofs.lemmas.Bool.{false≢true}
+use Rattle.std.proofs.Common.{◌≡◌, refl, sym, ◌∙◌, subst, ℕ, zero, suc, ◌≤◌, ◌<◌, arith, List, [], ◌∷◌, Bool, true, ◌&&◌, not, eqb, ltb, length, take, drop}
+use Rattle.std.proofs.lemmas.Bool.{and_parts, cond_both, not-false}
 use Rattle.std.proofs.Math.Option.{Option, none, some, some-injective, none-ne-some}
 use Rattle.refusal.specs.Base.{good, ◌>>=◌, ensure, given, bytes, same, empty, ch}
 use Rattle.refusal.proofs.Tools.{good-inj, bound, bound', chosen, present, gave}
-use Rattle.utf8.proofs.Ranges.{if-both, if-one}
+use Rattle.utf8.proofs.Ranges.{if-one}
 use Rattle.utf8.specs.White.{trim, trim_start}
 use Rattle.utf8.proofs.Utf8Laws.{utf8-trim, utf8-trim_start}
 use Rattle.item.specs.Tree.{Shape, Node, Yaml, null, str, Items, end, ◌◂◌, Entries, done, add}
@@ -19,14 +19,10 @@ use Rattle.lines.specs.Dash.{dashed}
 use Rattle.block.specs.Block.{Inside, starts_complex, line_value, child, block_key, value_behind, entry_at, key_at, map_turn, map_lines, entries_of, block_map, inline_map, item_behind, seq_turn, seq_lines, items_of, block_seq, block_of, inline_of, inside_of, within, block}
 use Rattle.tree.proofs.Sums.{Got}
 use Rattle.utf8.specs.Utf8.{Utf8}
-use Rattle.tree.proofs.Strings.{either, key-utf8, cut}
+use Rattle.tree.proofs.Strings.{key-utf8, cut}
 use Rattle.tree.proofs.Parts.{known, Lines, Parted, key-parted, under-body, drop-utf8}
 use Rattle.tree.proofs.Fit.{Fit, fit-null, fit-str, fit-end, fit-done, fit-snoc, fit-add, fit-pair, fit-seq, fit-dict, Fine, charge-le, was-fresh}
 use Rattle.tree.proofs.FlowFit.{flow-fine}
-
-not-false : (b : Bool) → not b ≡ false → b ≡ true
-not-false true e = refl
-not-false false e = absurd (false≢true (sym e))
 
 -- a line that begins with a dash, without it
 undashed : (t : List ℕ) → Utf8 t → dashed t ≡ true → Utf8 (drop 1 t)
@@ -35,7 +31,7 @@ undashed [] u e = u
 undashed (b ∷ t) u e = (cut [] b t (if-one (same (b ∷ t) (bytes "-")) (same (take 2 (b ∷ t)) (bytes "- ")) e (first (same t [])) (first (same (take 1 t) (bytes " ")))) u).1
   where
     first : (x : Bool) → eqb b (ch "-") && x ≡ true → b < 0x80
-    first x p = known b (ch "-") (omega arith) (if-both (eqb b (ch "-")) x p).0
+    first x p = known b (ch "-") (omega arith) (and_parts (eqb b (ch "-")) x p).0
 
 module _ (cap : ℕ) where
   -- a reader of values
@@ -67,7 +63,7 @@ module _ (cap : ℕ) where
   unfolding literal
   literal-fine l strip under sum ls g u e =
       let b = under-body under ls u in
-      leaf-fine l (str _) (fit-str l _ (either Utf8 strip (drop_newlines (literal_under under ls).0) _ (λ _. drop-utf8 _ b.0) (λ _. b.0))) sum _ g b.1 e
+      leaf-fine l (str _) (fit-str l _ (cond_both strip (drop_newlines (literal_under under ls).0) _ Utf8 (λ _. drop-utf8 _ b.0) (λ _. b.0))) sum _ g b.1 e
 
   pub line_value-fine : (l n : ℕ) (t : List ℕ) → Utf8 t → Reads l (λ sum ls. line_value cap l n sum t ls)
   unfolding line_value
@@ -168,7 +164,7 @@ module _ (cap : ℕ) where
         chosen (not (eqb m.indent d && dashed m.text)) _ _ e (λ _ p. rw (← good-inj _ _ p) f)
         λ k p. bound (item_behind cap i m sum (trim_start (drop 1 m.text)) ls) _ g p
         λ x q r.
-        let dash : dashed m.text ≡ true = (if-both (eqb m.indent d) (dashed m.text) (not-false _ k)).1 in
+        let dash : dashed m.text ≡ true = (and_parts (eqb m.indent d) (dashed m.text) (not-false _ k)).1 in
         let v = item_behind-fine m _ (utf8-trim_start _ (undashed m.text f.left.0 dash)) sum ls x f.left.1 q in
         ih (got ◂ x.0) x.1 x.2 g (record { tree = fit-snoc f.tree v.tree; sum = v.sum; left = v.left }) r
 

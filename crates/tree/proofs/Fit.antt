@@ -1,6 +1,7 @@
 -- What is known of a tree that is read: its levels, its keys, its strings, its integers; as it grows. Assumes nothing.
 use Rattle.std.proofs.Common.{◌≡◌, refl, ℕ, suc, ◌+◌, ◌≤◌, ◌<◌, ◌^◌, arith, List, Bool, true, false, not, leb, ℤ, leb-true}
 use Rattle.std.proofs.Math.Option.{Option, none, some}
+use Rattle.std.proofs.lemmas.Bool.{cond_both}
 use Rattle.std.specs.Int.Signed.{mag}
 use Rattle.refusal.specs.Base.{Answer, good, ◌>>=◌, ◌>>◌, ensure, one_of}
 use Rattle.refusal.proofs.Tools.{good-inj, refused≢good, chosen}
@@ -12,7 +13,7 @@ use Rattle.flow.specs.Flow.{fresh}
 use Rattle.tree.proofs.Levels.{levels-snoc, levels-add}
 use Rattle.tree.proofs.Keys.{Differing, differing-snoc, differing-add}
 use Rattle.utf8.specs.Utf8.{Utf8}
-use Rattle.tree.proofs.Strings.{either, Texts, texts-snoc, texts-add}
+use Rattle.tree.proofs.Strings.{Texts, texts-snoc, texts-add}
 use Rattle.tree.proofs.Integers.{integer-mag, ranged-snoc, ranged-add}
 
 -- a tree of at most `l` levels, whose keys differ in each mapping, whose strings and keys are UTF-8 and whose integers have 64 bits
@@ -44,9 +45,9 @@ module _ (l : ℕ) where
 pub fit-scalar : (l : ℕ) (s : List ℕ) → Utf8 s → Fit l (scalar_of s)
 unfolding scalar_of int_or
 fit-scalar l s u =
-    either (Fit l) (one_of s nulls) _ _ (λ _. fit-null l)
-    λ _. either (Fit l) (one_of s trues) _ _ (λ _. fit-bool l true)
-    λ _. either (Fit l) (one_of s falses) _ _ (λ _. fit-bool l false)
+    cond_both (one_of s nulls) _ _ (Fit l) (λ _. fit-null l)
+    λ _. cond_both (one_of s trues) _ _ (Fit l) (λ _. fit-bool l true)
+    λ _. cond_both (one_of s falses) _ _ (Fit l) (λ _. fit-bool l false)
     λ _. go (integer s) refl
   where
     go : (o : Option ℤ) → integer s ≡ o → Fit l (int_or s o)

@@ -3,7 +3,7 @@ use Rattle.std.proofs.Common.{◌≡◌, refl, sym, subst, ℕ, zero, suc, ◌�
 use Rattle.std.proofs.Math.Option.{Option, none, some, some-injective, none-ne-some}
 use Rattle.refusal.specs.Base.{Answer, good, ensure, given, ch}
 use Rattle.refusal.proofs.Tools.{good-inj, refused≢good, bound, bound', chosen}
-use Rattle.utf8.proofs.Ranges.{if-both}
+use Rattle.std.proofs.lemmas.Bool.{and_parts}
 use Rattle.utf8.proofs.Utf8Laws.{utf8-trim}
 use Rattle.item.specs.Tree.{Shape, Node, Yaml, null, str, Items, end, ◌◂◌, no_item, Entries, done, add, no_entry}
 use Rattle.scalar.specs.declared.Role.{Role}
@@ -44,7 +44,7 @@ module _ (cap n : ℕ) where
     item_turn-fine more ih got sum [] g f e = refused≢good g 10 n 0 e
     item_turn-fine more ih got sum (b ∷ bs) g f e =
         chosen (eqb b (ch "]")) _ _ e (λ k q. rw (← good-inj _ _ q) (behind (ch "]") (omega arith) k f))
-        λ _ p. chosen (eqb b (ch ",") && not (no_item got)) _ _ p (λ k q. ih got sum bs g (behind (ch ",") (omega arith) (if-both (eqb b (ch ",")) (not (no_item got)) k).0 f) q)
+        λ _ p. chosen (eqb b (ch ",") && not (no_item got)) _ _ p (λ k q. ih got sum bs g (behind (ch ",") (omega arith) (and_parts (eqb b (ch ",")) (not (no_item got)) k).0 f) q)
         λ _ p. chosen (stuck b bs) _ _ p (λ _ q. refused≢good g 19 n 0 q)
         λ _ p. bound (inside AsValue sum (b ∷ bs)) _ g p λ x q r.
         let v = h AsValue sum (b ∷ bs) x f.left q in
@@ -74,7 +74,7 @@ module _ (cap n : ℕ) where
     entry_turn-fine more ih got sum [] g f e = refused≢good g 9 n 0 e
     entry_turn-fine more ih got sum (b ∷ bs) g f e =
         chosen (eqb b (ch "}")) _ _ e (λ k q. rw (← good-inj _ _ q) (behind (ch "}") (omega arith) k f))
-        λ _ p. chosen (eqb b (ch ",") && not (no_entry got)) _ _ p (λ k q. ih got sum bs g (behind (ch ",") (omega arith) (if-both (eqb b (ch ",")) (not (no_entry got)) k).0 f) q)
+        λ _ p. chosen (eqb b (ch ",") && not (no_entry got)) _ _ p (λ k q. ih got sum bs g (behind (ch ",") (omega arith) (and_parts (eqb b (ch ",")) (not (no_entry got)) k).0 f) q)
         λ _ p. bound (inside AsKey sum (b ∷ bs)) _ g p
         λ x q p. bound (given (key_text x.0) 16 n 0) _ g p
         λ k qk p. bound (behind_colon cap n (skip_spaces x.2)) _ g p

@@ -1,8 +1,9 @@
 -- Trees in whose mappings no key stands twice. Assumes nothing.
-use Rattle.std.proofs.Common.{◌≡◌, refl, sym, ap, ◌∙◌, List, ℕ, Bool, true, false, ◌||◌}
-use Rattle.std.proofs.lemmas.Bool.{false≢true}
+use Rattle.std.proofs.Common.{◌≡◌, refl, sym, ap, ◌∙◌, List, ℕ, false}
+use Rattle.std.proofs.lemmas.Bool.{false≢true, or_parts}
 use Rattle.refusal.specs.Base.{same}
 use Rattle.item.specs.Tree.{Shape, Node, Yaml, null, bool, int, str, seq, dict, Items, end, ◌▸◌, ◌◂◌, Entries, done, pair, add, has_key}
+use Rattle.item.proofs.Joined.{has-add}
 use Rattle.item.proofs.Same.{same_refl, same-ne}
 
 abbrev pub Differing : {s : Shape} → Node s → Type 0
@@ -22,24 +23,13 @@ unfolding ◌◂◌
 differing-snoc end y d e = (e, tt)
 differing-snoc (x ▸ xs) y d e = (d.0, differing-snoc xs y d.1 e)
 
-neither : (a b : Bool) → a || b ≡ false → (a ≡ false) × (b ≡ false)
-neither true b e = absurd (false≢true (sym e))
-neither false b e = (refl, e)
-
 other_way : (a b : List ℕ) → same a b ≡ false → same b a ≡ false
 other_way a b h = same-ne b a (λ e. false≢true (sym h ∙ ap (same a) e ∙ same_refl a))
-
-has-add : (es : Entries) (k j : List ℕ) (v : Yaml) → has_key j es ≡ false → same k j ≡ false → has_key j (add es k v) ≡ false
-unfolding has_key add
-has-add done k j v h s = rw s
-has-add (pair i u es) k j v h s =
-    let p = neither (same i j) (has_key j es) h in
-    rw p.0 (has-add es k j v p.1 s)
 
 -- a key that is not there yet is added behind the others
 pub differing-add : (es : Entries) (k : List ℕ) (v : Yaml) → Differing es → has_key k es ≡ false → Differing v → Differing (add es k v)
 unfolding has_key add
 differing-add done k v d h e = (refl, e, tt)
 differing-add (pair j u es) k v d h e =
-    let p = neither (same j k) (has_key k es) h in
-    (has-add es k j v d.0 (other_way j k p.0), d.1, differing-add es k v d.2 p.1 e)
+    let p = or_parts (same j k) (has_key k es) h in
+    (rw (has-add es k j v, d.0, other_way j k p.0), d.1, differing-add es k v d.2 p.1 e)

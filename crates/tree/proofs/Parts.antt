@@ -1,10 +1,11 @@
 -- What the definitions cut from a text that is UTF-8 is UTF-8. Assumes nothing.
 use Rattle.std.proofs.Common.{◌≡◌, refl, sym, ap, ◌∙◌, ℕ, zero, suc, ◌-◌, ◌<◌, arith, List, [], ◌∷◌, ◌++◌, append_assoc, append-nil, Bool, true, false, ◌&&◌, ◌||◌, eqb, leb, ltb, length, take, drop, replicate, length-append, take_at, drop_at, eqb-true}
-use Rattle.std.proofs.lemmas.Bool.{false≢true}
+use Rattle.std.proofs.lemmas.Bool.{false≢true, and_parts, cond_both}
+use Rattle.std.specs.List.{AllByRecursion as All}
 use Rattle.std.proofs.Math.Option.{Option, none, some, some-injective, none-ne-some}
 use Rattle.refusal.specs.Base.{Answer, good, refused, ch, empty}
 use Rattle.refusal.proofs.Tools.{good-inj, refused≢good, bound, chosen}
-use Rattle.utf8.proofs.Ranges.{if-both, if-one}
+use Rattle.utf8.proofs.Ranges.{if-one}
 use Rattle.utf8.specs.White.{all_white}
 use Rattle.utf8.proofs.Utf8Laws.{utf8_append, utf8_nil, utf8-trim_end}
 use Rattle.scalar.specs.Key.{qualifies, last_or_space, quote_after, depth_after, key_end_from, key_end}
@@ -16,7 +17,7 @@ use Rattle.lines.specs.declared.Literal.TheVariants.{Closed, Under}
 use Rattle.lines.specs.Lines.{Line, begins_newline, prepend, split_lines, indent_of, tabbed, starts_comment, place_after, uncommented, strip_comment, significant, is_marker, Event, entry, bad, events_of, literal_after, blanks_before, body_of, scan, collect, significant_lines}
 use Rattle.literal.specs.Literal.{is_blank, before_deeper, literal_line, literal_lines, literal_under, all_newlines, drop_newlines}
 use Rattle.utf8.specs.Utf8.{Utf8}
-use Rattle.tree.proofs.Strings.{either, joined, put, cut}
+use Rattle.tree.proofs.Strings.{joined, put, cut}
 
 -- a byte that was found to be one of ASCII
 pub known : (b c : ℕ) → c < 0x80 → eqb b c ≡ true → b < 0x80
@@ -37,7 +38,7 @@ last pre u = rw append-nil u
 pub skip-utf8 : (s : List ℕ) → Utf8 s → Utf8 (skip_spaces s)
 unfolding skip_spaces
 skip-utf8 [] u = u
-skip-utf8 (b ∷ s) u = either Utf8 (eqb b (ch " ")) _ _ (λ e. skip-utf8 s (cut [] b s (known b (ch " ") (omega arith) e) u).1) (λ _. u)
+skip-utf8 (b ∷ s) u = cond_both (eqb b (ch " ")) _ _ Utf8 (λ e. skip-utf8 s (cut [] b s (known b (ch " ") (omega arith) e) u).1) (λ _. u)
 
 item-ascii : (b : ℕ) → ends_item b ≡ true → b < 0x80
 unfolding ends_item
@@ -48,14 +49,14 @@ item-ascii b e = if-one (eqb b (ch ",") || eqb b (ch "}")) (eqb b (ch "]")) e
 stops-ascii : (b : ℕ) (s : List ℕ) → stops_plain b s ≡ true → b < 0x80
 unfolding stops_plain
 stops-ascii b s e = if-one (ends_item b) (eqb b (ch ":") && ends_colon s) e (item-ascii b)
-    (λ e. known b (ch ":") (omega arith) (if-both (eqb b (ch ":")) (ends_colon s) e).0)
+    (λ e. known b (ch ":") (omega arith) (and_parts (eqb b (ch ":")) (ends_colon s) e).0)
 
 plain-from : (f : Bool) (pre s : List ℕ) → Utf8 (pre ++ s) → Utf8 (pre ++ (plain_text f s).0) × Utf8 (plain_text f s).1
 unfolding plain_text
 plain-from f pre [] u = (u, utf8_nil)
-plain-from f pre (b ∷ s) u = either (λ (g : List ℕ × List ℕ). Utf8 (pre ++ g.0) × Utf8 g.1) (f && stops_plain b s) _ _
+plain-from f pre (b ∷ s) u = cond_both (f && stops_plain b s) _ _ (λ (g : List ℕ × List ℕ). Utf8 (pre ++ g.0) × Utf8 g.1)
     (λ e.
-    let h : b < 0x80 = stops-ascii b s (if-both f (stops_plain b s) e).1 in
+    let h : b < 0x80 = stops-ascii b s (and_parts f (stops_plain b s) e).1 in
     let p = cut pre b s h u in
     (last pre p.0, put b s h p.1))
     (λ _. let p = plain-from f (pre ++ (b ∷ [])) s (on pre b s u) in (off pre b _ p.0, p.1))
@@ -138,9 +139,9 @@ Parted t split = Utf8 (take split t) × Utf8 (drop (suc split) t)
 qualified : (q d b : ℕ) (s : List ℕ) → qualifies q d (b ∷ s) ≡ true → b < 0x80
 unfolding qualifies
 qualified q d b s k =
-    let p = (if-both (eqb q 0 && eqb b (ch ":") && eqb d 0) (last_or_space s) k).0 in
-    let r = (if-both (eqb q 0 && eqb b (ch ":")) (eqb d 0) p).0 in
-    known b (ch ":") (omega arith) (if-both (eqb q 0) (eqb b (ch ":")) r).1
+    let p = (and_parts (eqb q 0 && eqb b (ch ":") && eqb d 0) (last_or_space s) k).0 in
+    let r = (and_parts (eqb q 0 && eqb b (ch ":")) (eqb d 0) p).0 in
+    known b (ch ":") (omega arith) (and_parts (eqb q 0) (eqb b (ch ":")) r).1
 
 key-from : (q d : ℕ) (pre s : List ℕ) (split : ℕ) → Utf8 (pre ++ s) → key_end_from q d (length pre) s ≡ some split → Parted (pre ++ s) split
 unfolding key_end_from
@@ -162,16 +163,12 @@ key-parted t split u e = key-from 0 0 [] t split u e
 
 -- ---- of a text: its lines, and the entries that they give
 
-abbrev Each : List (List ℕ) → Type 0
-Each [] = Unit {0}
-Each (t ∷ ts) = Utf8 t × Each ts
-
 -- with `pre` before the first
 abbrev EachFrom : List ℕ → List (List ℕ) → Type 0
 EachFrom pre [] = Utf8 pre
-EachFrom pre (t ∷ ts) = Utf8 (pre ++ t) × Each ts
+EachFrom pre (t ∷ ts) = Utf8 (pre ++ t) × All Utf8 ts
 
-each : (ts : List (List ℕ)) → EachFrom [] ts → Each ts
+each : (ts : List (List ℕ)) → EachFrom [] ts → All Utf8 ts
 each [] h = tt
 each (t ∷ ts) h = h
 
@@ -183,16 +180,16 @@ prepend-each pre b (t ∷ ts) h = (off pre b t h.0, h.1)
 split_from : (pre s : List ℕ) → Utf8 (pre ++ s) → EachFrom pre (split_lines s)
 unfolding split_lines
 split_from pre [] u = rw append-nil at u
-split_from pre (b ∷ s) u = either (EachFrom pre) (eqb b (ch "\n")) _ _
+split_from pre (b ∷ s) u = cond_both (eqb b (ch "\n")) _ _ (EachFrom pre)
     (λ k. let c = cut pre b s (known b (ch "\n") (omega arith) k) u in (last pre c.0, each (split_lines s) (split_from [] s c.1)))
-    λ _. either (EachFrom pre) (eqb b (ch "\r") && begins_newline s) _ _
-    (λ k. let c = cut pre b s (known b (ch "\r") (omega arith) (if-both (eqb b (ch "\r")) (begins_newline s) k).0) u in split_from pre s (joined pre s c.0 c.1))
+    λ _. cond_both (eqb b (ch "\r") && begins_newline s) _ _ (EachFrom pre)
+    (λ k. let c = cut pre b s (known b (ch "\r") (omega arith) (and_parts (eqb b (ch "\r")) (begins_newline s) k).0) u in split_from pre s (joined pre s c.0 c.1))
     λ _. prepend-each pre b (split_lines s) (split_from (pre ++ (b ∷ [])) s (on pre b s u))
 
 indented-utf8 : (s : List ℕ) → Utf8 s → Utf8 (drop (indent_of s) s)
 unfolding indent_of
 indented-utf8 [] u = u
-indented-utf8 (b ∷ s) u = either (λ (k : ℕ). Utf8 (drop k (b ∷ s))) (eqb b (ch " ")) _ _
+indented-utf8 (b ∷ s) u = cond_both (eqb b (ch " ")) _ _ (λ (k : ℕ). Utf8 (drop k (b ∷ s)))
     (λ k. indented-utf8 s (cut [] b s (known b (ch " ") (omega arith) k) u).1) (λ _. u)
 
 hash : (p : Place) (b : ℕ) → starts_comment p b ≡ true → b < 0x80
@@ -206,7 +203,7 @@ hash Hidden b e = absurd (false≢true e)
 uncommented-from : (p : Place) (pre s : List ℕ) → Utf8 (pre ++ s) → Utf8 (pre ++ uncommented p s)
 unfolding uncommented
 uncommented-from p pre [] u = u
-uncommented-from p pre (b ∷ s) u = either (λ (t : List ℕ). Utf8 (pre ++ t)) (starts_comment p b) _ _
+uncommented-from p pre (b ∷ s) u = cond_both (starts_comment p b) _ _ (λ (t : List ℕ). Utf8 (pre ++ t))
     (λ k. last pre (cut pre b s (hash p b k) u).0)
     (λ _. off pre b _ (uncommented-from (place_after p b) (pre ++ (b ∷ [])) s (on pre b s u)))
 
@@ -215,25 +212,26 @@ unfolding significant strip_comment
 significant-utf8 s u = utf8-trim_end _ (uncommented-from Fresh [] _ (indented-utf8 s u))
 
 abbrev pub Lines : List Line → Type 0
-Lines [] = Unit {0}
-Lines (l ∷ ls) = Utf8 l.text × Lines ls
+Lines ls = All (λ l. Utf8 l.text) ls
+
+abbrev OfUtf8 : Event → Type 0
+OfUtf8 (entry l) = Utf8 l.text
+OfUtf8 (bad k n) = Unit {0}
 
 abbrev Events : List Event → Type 0
-Events [] = Unit {0}
-Events (entry l ∷ es) = Utf8 l.text × Events es
-Events (bad k n ∷ es) = Events es
+Events es = All OfUtf8 es
 
-events-append : (es fs : List Event) → Events es → Events fs → Events (es ++ fs)
-events-append [] fs h k = k
-events-append (entry l ∷ es) fs h k = (h.0, events-append es fs h.1 k)
-events-append (bad m n ∷ es) fs h k = events-append es fs h k
+-- some behind others
+pub all-append : {A : Type 0} (P : A → Type 0) (xs ys : List A) → All P xs → All P ys → All P (xs ++ ys)
+all-append P [] ys h k = k
+all-append P (x ∷ xs) ys h k = (h.0, all-append P xs ys h.1 k)
 
 events_of_lem : (n : ℕ) (raw : List ℕ) → Utf8 raw → Events (events_of n raw)
 unfolding events_of
 events_of_lem n raw u =
-    either Events (tabbed raw) _ _ (λ _. tt)
-    λ _. either Events (empty (significant raw)) _ _ (λ _. tt)
-    λ _. either Events (is_marker (significant raw)) _ _ (λ _. tt)
+    cond_both (tabbed raw) _ _ Events (λ _. (tt, tt))
+    λ _. cond_both (empty (significant raw)) _ _ Events (λ _. tt)
+    λ _. cond_both (is_marker (significant raw)) _ _ Events (λ _. (tt, tt))
     λ _. (significant-utf8 raw u, tt)
 
 blanks : (waiting n i : ℕ) → Events (blanks_before waiting n i)
@@ -243,18 +241,18 @@ blanks (suc waiting) n i = (utf8_nil, blanks waiting n i)
 
 body_of_lem : (waiting n : ℕ) (raw : List ℕ) → Utf8 raw → Events (body_of waiting n raw)
 unfolding body_of
-body_of_lem waiting n raw u = either Events (tabbed raw) _ _ (λ _. tt)
-    λ _. events-append (blanks_before waiting n (indent_of raw)) _ (blanks waiting n (indent_of raw)) (utf8-trim_end _ (indented-utf8 raw u), tt)
+body_of_lem waiting n raw u = cond_both (tabbed raw) _ _ Events (λ _. (tt, tt))
+    λ _. all-append OfUtf8 (blanks_before waiting n (indent_of raw)) _ (blanks waiting n (indent_of raw)) (utf8-trim_end _ (indented-utf8 raw u), tt)
 
-scan-events : (lit : Literal) (waiting n : ℕ) (raws : List (List ℕ)) → Each raws → Events (scan lit waiting n raws)
+scan-events : (lit : Literal) (waiting n : ℕ) (raws : List (List ℕ)) → All Utf8 raws → Events (scan lit waiting n raws)
 unfolding scan
 scan-events Closed waiting n [] h = tt
 scan-events (Under at) waiting n [] h = tt
-scan-events Closed waiting n (raw ∷ raws) h = events-append (events_of n raw) _ (events_of_lem n raw h.0) (scan-events (literal_after raw) 0 (suc n) raws h.1)
+scan-events Closed waiting n (raw ∷ raws) h = all-append OfUtf8 (events_of n raw) _ (events_of_lem n raw h.0) (scan-events (literal_after raw) 0 (suc n) raws h.1)
 scan-events (Under at) waiting n (raw ∷ raws) h =
-    either Events (all_white raw) _ _ (λ _. scan-events (Under at) (suc waiting) (suc n) raws h.1)
-    λ _. either Events (ltb at (indent_of raw)) _ _ (λ _. events-append (body_of waiting n raw) _ (body_of_lem waiting n raw h.0) (scan-events (Under at) 0 (suc n) raws h.1))
-    λ _. events-append (events_of n raw) _ (events_of_lem n raw h.0) (scan-events (literal_after raw) 0 (suc n) raws h.1)
+    cond_both (all_white raw) _ _ Events (λ _. scan-events (Under at) (suc waiting) (suc n) raws h.1)
+    λ _. cond_both (ltb at (indent_of raw)) _ _ Events (λ _. all-append OfUtf8 (body_of waiting n raw) _ (body_of_lem waiting n raw h.0) (scan-events (Under at) 0 (suc n) raws h.1))
+    λ _. all-append OfUtf8 (events_of n raw) _ (events_of_lem n raw h.0) (scan-events (literal_after raw) 0 (suc n) raws h.1)
 
 collect-lines : (room : ℕ) (es : List Event) (ls : List Line) → Events es → collect room es ≡ good ls → Lines ls
 unfolding collect
@@ -278,7 +276,7 @@ spaces-utf8 (suc k) = put (ch " ") _ (omega arith) (spaces-utf8 k)
 
 line-utf8 : (indent : ℕ) (l : Line) (ls : List Line) → Utf8 l.text → Utf8 (literal_line indent l ls)
 unfolding literal_line
-line-utf8 indent l ls u = either Utf8 (is_blank l && before_deeper indent ls) _ _ (λ _. newline)
+line-utf8 indent l ls u = cond_both (is_blank l && before_deeper indent ls) _ _ Utf8 (λ _. newline)
     (λ _. joined (replicate (l.indent - indent) (ch " ") ++ l.text) _
     (joined (replicate (l.indent - indent) (ch " ")) l.text (spaces-utf8 (l.indent - indent)) u) newline)
   where
@@ -292,20 +290,20 @@ Body g = Utf8 g.0 × Lines g.1
 lines-body : (indent : ℕ) (ls : List Line) → Lines ls → Body (literal_lines indent ls)
 unfolding literal_lines
 lines-body indent [] h = (utf8_nil, tt)
-lines-body indent (l ∷ ls) h = either Body (leb indent l.indent) _ _
+lines-body indent (l ∷ ls) h = cond_both (leb indent l.indent) _ _ Body
     (λ _. let p = lines-body indent ls h.1 in (joined (literal_line indent l ls) _ (line-utf8 indent l ls h.0) p.0, p.1))
     (λ _. (utf8_nil, h))
 
 pub under-body : (under : ℕ) (ls : List Line) → Lines ls → Body (literal_under under ls)
 unfolding literal_under
 under-body under [] h = (utf8_nil, tt)
-under-body under (l ∷ ls) h = either Body (ltb under l.indent) _ _ (λ _. lines-body l.indent (l ∷ ls) h) (λ _. (utf8_nil, h))
+under-body under (l ∷ ls) h = cond_both (ltb under l.indent) _ _ Body (λ _. lines-body l.indent (l ∷ ls) h) (λ _. (utf8_nil, h))
 
 drop-from : (pre s : List ℕ) → Utf8 (pre ++ s) → Utf8 (pre ++ drop_newlines s)
 unfolding drop_newlines all_newlines
 drop-from pre [] u = u
-drop-from pre (b ∷ s) u = either (λ (t : List ℕ). Utf8 (pre ++ t)) (all_newlines (b ∷ s)) _ _
-    (λ k. last pre (cut pre b s (known b (ch "\n") (omega arith) (if-both (eqb b (ch "\n")) (all_newlines s) k).0) u).0)
+drop-from pre (b ∷ s) u = cond_both (all_newlines (b ∷ s)) _ _ (λ (t : List ℕ). Utf8 (pre ++ t))
+    (λ k. last pre (cut pre b s (known b (ch "\n") (omega arith) (and_parts (eqb b (ch "\n")) (all_newlines s) k).0) u).0)
     (λ _. off pre b _ (drop-from (pre ++ (b ∷ [])) s (on pre b s u)))
 
 pub drop-utf8 : (s : List ℕ) → Utf8 s → Utf8 (drop_newlines s)

@@ -3,13 +3,11 @@ use Rattle.std.proofs.Common.{◌≡◌, ℕ, ◌≤◌, min, ◌^◌, arith, Li
 use Rattle.refusal.specs.Base.{good, ◌>>◌, ensure}
 use Rattle.refusal.proofs.Tools.{ensured, good-inj, bound, bound'}
 use Rattle.utf8.specs.Utf8.{is_utf8, Utf8}
-use Rattle.item.specs.Tree.{Yaml, levels, Ranged}
+use Rattle.item.specs.Tree.{Yaml, Ranged}
 use Rattle.item.specs.Encode.{encode}
 use Rattle.lines.specs.Lines.{Line, significant_lines}
 use Rattle.block.specs.Block.{block}
 use Rattle.tree.specs.Tree.{tree, tree_of, admitted, nothing_left}
-use Rattle.tree.proofs.Keys.{Differing}
-use Rattle.tree.proofs.Strings.{Texts}
 use Rattle.tree.proofs.Parts.{Lines, lines-utf8}
 use Rattle.tree.proofs.Fit.{Fit}
 use Rattle.tree.proofs.BlockFit.{block-fine}
@@ -35,18 +33,6 @@ module _ (work : ℕ) (text : List ℕ) (y : Yaml) (e : tree work text ≡ good 
 
   pub tree-sound : Sound y
   tree-sound = read λ ls g u b q. rw (← q) (block-fine (min work (2 ^ 20)) 32 0 ls g u b).tree
-
-  -- the collections nest at most 32 deep
-  pub tree-levels : levels y ≤ 32
-  tree-levels = tree-sound.few
-
-  -- in each mapping the keys differ
-  pub tree-keys : Differing y
-  tree-keys = tree-sound.keys
-
-  -- every string and every key is UTF-8
-  pub tree-strings : Texts y
-  tree-strings = tree-sound.strings
 
   -- every integer has 64 bits
   pub tree-integers : Ranged y

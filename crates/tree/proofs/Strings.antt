@@ -1,5 +1,6 @@
 -- Trees whose strings and keys are UTF-8, and scalars as texts. Assumes nothing.
-use Rattle.std.proofs.Common.{if◌then◌else◌, ◌≡◌, refl, sym, ◌∙◌, ℕ, zero, suc, ◌+◌, ◌/◌, ◌%◌, ◌<◌, arith, List, [], ◌∷◌, ◌++◌, Bool, true, false, ltb, ℤ, pos, negsuc, ltb-true}
+use Rattle.std.proofs.Common.{◌≡◌, sym, ◌∙◌, ℕ, zero, suc, ◌+◌, ◌/◌, ◌%◌, ◌<◌, arith, List, [], ◌∷◌, ◌++◌, Bool, true, false, ltb, ℤ, pos, negsuc, ltb-true}
+use Rattle.std.proofs.lemmas.Bool.{cond_both}
 use Rattle.refusal.specs.Base.{good, given, ch, bytes}
 use Rattle.refusal.proofs.Tools.{good-inj, refused≢good}
 use Rattle.utf8.specs.Utf8.{Utf8}
@@ -31,11 +32,6 @@ unfolding add
 texts-add done k v d u e = (u, e, tt)
 texts-add (pair j w es) k v d u e = (d.0, d.1, texts-add es k v d.2 u e)
 
--- what holds of what a test chooses
-pub either : {A : Type 0} (P : A → Type 0) (t : Bool) (a c : A) → (t ≡ true → P a) → (t ≡ false → P c) → P (if t then a else c)
-either P true a c p q = p refl
-either P false a c p q = q refl
-
 -- ---- texts joined, and cut at a byte of ASCII, which is a character of its own
 
 pub joined : (a c : List ℕ) → Utf8 a → Utf8 c → Utf8 (a ++ c)
@@ -54,7 +50,7 @@ cut a b c h u =
 decimal-utf8 : (places n : ℕ) → Utf8 (decimal_of places n)
 unfolding decimal_of
 decimal-utf8 zero n = utf8_nil
-decimal-utf8 (suc places) n = either Utf8 (ltb n 10) _ _
+decimal-utf8 (suc places) n = cond_both (ltb n 10) _ _ Utf8
     (λ e. put (ch "0" + n) [] (omega (arith, ltb-true n 10 e)) utf8_nil)
     (λ e. joined (decimal_of places (n / 10)) _ (decimal-utf8 places (n / 10)) (put (ch "0" + n % 10) [] (omega arith) utf8_nil))
 

@@ -13,8 +13,8 @@ use refusal::Refusal;
 use utf8::is_utf8;
 use writer::Writer;
 
-// The most bytes that a text may have.
-const LONGEST: usize = 65535;
+/// The most bytes that a text may have.
+pub const LONGEST: usize = 65535;
 
 // How many collections may be opened, one in the other.
 const MOST_LEVELS: usize = 32;
@@ -34,7 +34,7 @@ pub struct TreeRead {
     pub count: usize,
 }
 
-// The value of all lines.
+// The value of all lines. It is lent the output and no writer, which it would have to know to be empty.
 #[tactic(auto, using(crate::proofs::Reading::lines_read))]
 fn tree_of(lines: &Lines<'_>, out: &mut [u8]) -> Result<usize, Refusal>
     requires { length out.old ≤ 2 ^ 20 }
@@ -59,8 +59,7 @@ pub fn read_with(
     requires { length out.old ≤ 2 ^ 20 }
     ensures { AgreesRead (definition.tree (length out.old) text.now) text.now rows.new out.old out.new result }
 {
-    let is_long = text.len() > LONGEST;
-    if is_long {
+    if text.len() > LONGEST {
         return Err(Refusal::TextTooLong);
     }
     if !is_utf8(text) {

@@ -1,12 +1,14 @@
 -- Laws of parts and of white space, for proofs of code that trims. They hold of every list of bytes. Assumes nothing.
 use Rattle.std.specs.Prelude.{if◌then◌else◌}
-use Rattle.std.proofs.Common.{◌≡◌, refl, sym, ap, ◌∙◌, List, [], ◌∷◌, ◌++◌, Bool, true, false, ◌&&◌, ℕ, zero, suc, ◌+◌, ◌-◌, ◌≤◌, ◌<◌, add-one, arith, eqb, leb, ltb, length, get_or, take, drop, length-drop, take-take, take-add, drop-cons, drop-drop, length-take-le, get_or-take, get_or-drop, ltb-true, ltb-false, ne_eqb, leb-true, leb-false}
-use Rattle.std.proofs.Math.Bool.{false≢true}
+use Rattle.std.proofs.Common.{◌≡◌, refl, sym, ap, ◌∙◌, ⊎_elim, List, [], ◌∷◌, ◌++◌, Bool, true, false, ℕ, zero, suc, ◌+◌, ◌-◌, ◌≤◌, ◌<◌, arith, eqb, ltb, length, get_or, take, drop, length-drop, take-take, take-add, drop-drop, length-take-le, get_or-take, get_or-drop, ltb-true, ltb-false, ne_eqb}
+use Rattle.std.proofs.lemmas.Bool.{cases_lt}
+use Rattle.std.proofs.lemmas.List.{drop_more}
+use Rattle.std.proofs.Math.Bool.{false≢true, and-false}
 use Rattle.std.proofs.Math.Option.{Option, none, some}
 use Rattle.std.proofs.Math.Seq.{take-nil, take-length, drop-length}
 use Rattle.refusal.specs.Base.{maybe, empty}
 use Rattle.utf8.specs.Utf8.{Range, ◌‥◌, within}
-use Rattle.utf8.proofs.Ranges.{and-false, below, above}
+use Rattle.utf8.proofs.Ranges.{below, above}
 use Rattle.utf8.specs.White.{white1, white2, in2000, white3, white_at, white_len, leading_from, leading, trim_start, all_white, trim_end, trim}
 use Rattle.utf8.specs.Part.{part}
 
@@ -31,8 +33,7 @@ module _ (s : List ℕ) where
   pub part-cons : (a e : ℕ) → a < e → e ≤ length s → part s a e ≡ get_or s a 0 ∷ part s (a + 1) e
   part-cons a e h k =
       let z : e - a ≡ suc (e - (a + 1)) = omega arith in
-      let d : drop a s ≡ get_or s a 0 ∷ drop (a + 1) s = rw add-one (drop-cons s a 0 (omega arith)) in
-      rw (z, d)
+      rw (z, drop_more s a 0 (omega arith))
 
   pub part-get_or : (a e k : ℕ) → a + k < e → get_or (part s a e) k 0 ≡ get_or s (a + k) 0
   part-get_or a e k h = get_or-take (e - a) (drop a s) k 0 (omega arith) ∙ get_or-drop a s k 0
@@ -140,77 +141,66 @@ leading_le s = from_le 0 s
 abbrev pub white_from : ℕ → List ℕ → Bool
 white_from k s = empty (drop (leading_from k s) s)
 
--- a visible byte, or one that can only stand behind another, begins no white space character
+-- what begins no white space character of one byte, of two and of three
+module _ (a : ℕ) where
+  pub not-one : 0x20 < a → white1 a ≡ false
+  unfolding white1
+  not-one h = rw (above (0x09 ‥ 0x0d) a (omega arith), ne_eqb a 0x20 (λ e. omega arith))
+
+  pub not-two : (a ≡ 0xc2 → ⊥) → (b : ℕ) → white2 a b ≡ false
+  unfolding white2
+  not-two n b = rw (ne_eqb a 0xc2 n)
+
+  pub not_three : (a ≡ 0xe1 → ⊥) → (a ≡ 0xe2 → ⊥) → (a ≡ 0xe3 → ⊥) → (b c : ℕ) → white3 a b c ≡ false
+  unfolding white3
+  not_three n m k b c = rw (ne_eqb a 0xe1 n, ne_eqb a 0xe2 m, ne_eqb a 0xe3 k)
+
+-- a visible byte, or one that can only stand behind another, begins none
 pub first-none : (a : ℕ) (s : List ℕ) → 0x20 < a → a < 0xc0 → white_at a s ≡ none
-unfolding white_at white1 white2 white3
-first-none a s h k = go s
-  where
-    no1 : white1 a ≡ false
-    no1 = rw (above (0x09 ‥ 0x0d) a (omega arith), ne_eqb a 0x20 (λ e. omega arith))
+unfolding white_at
+first-none a [] h k = rw (not-one a h)
+first-none a (b ∷ []) h k = rw (not-one a h, not-two a (λ e. omega arith) b)
+first-none a (b ∷ c ∷ s) h k = rw (not-one a h, not-two a (λ e. omega arith) b, not_three a (λ e. omega arith) (λ e. omega arith) (λ e. omega arith) b c)
 
-    no2 : (b : ℕ) → white2 a b ≡ false
-    no2 b = rw (ne_eqb a 0xc2 (λ e. omega arith))
-
-    no3 : (b c : ℕ) → white3 a b c ≡ false
-    no3 b c = rw (ne_eqb a 0xe1 (λ e. omega arith), ne_eqb a 0xe2 (λ e. omega arith), ne_eqb a 0xe3 (λ e. omega arith))
-
-    go : (t : List ℕ) → white_at a t ≡ none
-    go [] = rw no1
-    go (b ∷ []) = rw (no1, no2 b)
-    go (b ∷ c ∷ t) = rw (no1, no2 b, no3 b c)
-
--- every byte of a white space character behind the first can only stand there
+-- every byte of a white space character behind the first can only stand there: none other goes on with one
 module _ (w : ℕ) (first : 0x80 ≤ w → w < 0xc0 → ⊥) where
   other : (n : ℕ) → 0x80 ≤ n → n < 0xc0 → eqb w n ≡ false
   other n h l = ne_eqb w n (λ q. first (omega arith) (omega arith))
 
   off : (r : Range) → 0x80 ≤ r.low → r.high < 0xc0 → within r w ≡ false
-  off r h l = go (leb r.low w) refl
-    where
-      go : (t : Bool) → leb r.low w ≡ t → within r w ≡ false
-      go true q = above r w (let m : r.low ≤ w = leb-true r.low w q in omega (arith, first (omega arith)))
-      go false q = below r w (leb-false r.low w q)
+  off r h l = ⊎_elim (λ m. below r w m) (λ m. above r w (omega (arith, first (omega arith)))) (cases_lt w r.low)
 
   pub no_second : (a : ℕ) → white2 a w ≡ false
   unfolding white2
-  no_second a = rw (other 0x85 (omega arith) (omega arith), other 0xa0 (omega arith) (omega arith), and-false (eqb a 0xc2))
+  no_second a = simp (other 0x85 (omega arith) (omega arith), other 0xa0 (omega arith) (omega arith), and-false)
 
   no_middle : (a c : ℕ) → white3 a w c ≡ false
   unfolding white3
-  no_middle a c =
-      rw (other 0x9a (omega arith) (omega arith), other 0x80 (omega arith) (omega arith), other 0x81 (omega arith) (omega arith), and-false (eqb a 0xe1), and-false (eqb a 0xe2), and-false (eqb a 0xe3))
+  no_middle a c = simp (other 0x9a (omega arith) (omega arith), other 0x80 (omega arith) (omega arith), other 0x81 (omega arith) (omega arith), and-false)
 
   pub no_third : (a b : ℕ) → white3 a b w ≡ false
   unfolding white3 in2000
   no_third a b =
-      rw (
+      simp (
         other 0x80 (omega arith) (omega arith),
         off (0x80 ‥ 0x8a) (omega arith) (omega arith),
         off (0xa8 ‥ 0xa9) (omega arith) (omega arith),
-        other 0xaf
-            (omega arith) (omega arith),
+        other 0xaf (omega arith) (omega arith),
         other 0x9f (omega arith) (omega arith),
-        and-false (eqb a 0xe1 && eqb b 0x9a),
-        and-false (eqb a 0xe2 && eqb b 0x80),
-        and-false (eqb a 0xe2 && eqb b 0x81),
-        and-false (eqb a 0xe3 && eqb b 0x80),
+        and-false,
       )
 
--- so no byte of a white space character behind the first begins another
-module _ (w : ℕ) (ws : List ℕ) (k : ℕ) (e : white_at w ws ≡ some k) where
-  pub white-first : 0x80 ≤ w → w < 0xc0 → ⊥
-  white-first h l = let z : none ≡ some k = sym (first-none w ws (omega arith) l) ∙ e in let q : ◌≡◌ {A = ℕ} 0 1 = cc in omega arith
-
-  -- a character behind a text takes no part in the characters before it
-  pub white-apart : (a : ℕ) (s : List ℕ) → white_at a (s ++ w ∷ ws) ≡ white_at a s
+  -- so what begins with it, behind a text, takes no part in the characters before it
+  pub white-apart : (a : ℕ) (s t : List ℕ) → white_at a (s ++ w ∷ t) ≡ white_at a s
   unfolding white_at
-  white-apart a [] = go ws
-    where
-      go : (t : List ℕ) → white_at a (w ∷ t) ≡ white_at a []
-      go [] = rw (no_second w white-first a)
-      go (c ∷ t) = rw (no_second w white-first a, no_middle w white-first a c)
-  white-apart a (b ∷ []) = rw (no_third w white-first a b)
-  white-apart a (b ∷ c ∷ s) = refl
+  white-apart a [] [] = rw (no_second a)
+  white-apart a [] (c ∷ t) = rw (no_second a, no_middle a c)
+  white-apart a (b ∷ []) t = rw (no_third a b)
+  white-apart a (b ∷ c ∷ s) t = refl
+
+-- and no byte of a white space character behind the first begins another
+pub white-first : (w : ℕ) (ws : List ℕ) (k : ℕ) → white_at w ws ≡ some k → 0x80 ≤ w → w < 0xc0 → ⊥
+white-first w ws k e h l = let z : none ≡ some k = sym (first-none w ws (omega arith) l) ∙ e in let q : ◌≡◌ {A = ℕ} 0 1 = cc in omega arith
 
 pub from-full : (s : List ℕ) → leading_from (length s) s ≡ length s
 unfolding leading_from
@@ -223,7 +213,7 @@ module _ (w : ℕ) (ws : List ℕ) (e : white_at w ws ≡ some (length ws)) wher
   from-apart zero [] h = rw (e, from-full ws, drop-length ws)
   from-apart (suc k) [] h = absurd (omega arith)
   from-apart (suc k) (b ∷ s) h = from-apart k s (omega arith)
-  from-apart zero (b ∷ s) h = rw (white-apart w ws (length ws) e b s) (go (white_at b s) refl (λ k. from-apart k s))
+  from-apart zero (b ∷ s) h = rw (white-apart w (white-first w ws (length ws) e) b s ws) (go (white_at b s) refl (λ k. from-apart k s))
     where
       go : (o : Option ℕ) → white_at b s ≡ o → ((k : ℕ) → k ≤ length s → white_from k (s ++ w ∷ ws) ≡ white_from k s)
           → empty (drop (maybe o 0 (λ k. suc (leading_from k (s ++ w ∷ ws)))) (b ∷ s ++ w ∷ ws)) ≡ empty (drop (maybe o 0 (λ k. suc (leading_from k s))) (b ∷ s))
@@ -334,14 +324,6 @@ leading-all s e = rw (e, drop-length s)
 pub all-leading : (s : List ℕ) → all_white s ≡ true → leading s ≡ length s
 unfolding all_white trim_start
 all-leading s e = omega (arith, leading_le s, length-drop (leading s) s, ap length (empty-nil (drop (leading s) s) e))
-
-pub start-all : (s : List ℕ) → all_white s ≡ true → trim_start s ≡ []
-unfolding all_white
-start-all s e = empty-nil (trim_start s) e
-
-pub trim-all : (s : List ℕ) → all_white s ≡ true → trim s ≡ []
-unfolding trim trim_end
-trim-all s e = ap trim_end (start-all s e)
 
 pub trim-nil : trim [] ≡ []
 unfolding trim trim_start trim_end leading leading_from

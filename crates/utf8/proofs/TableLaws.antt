@@ -1,9 +1,10 @@
 -- What the table of UTF-8 says of a first byte, by where the byte lies. The rows are in the order of their first bytes, so those
 -- before a row and those behind it need one comparison each, which computes. Assumes nothing.
 use Rattle.std.proofs.Common.{◌≡◌, refl, ap, ◌∙◌, List, [], ◌∷◌, Bool, true, ◌&&◌, ℕ, zero, suc, ◌≤◌, ◌<◌, arith, leb, ltb, drop, leb-true, ltb-true}
+use Rattle.std.proofs.lemmas.Bool.{and_parts}
 use Rattle.std.proofs.Math.Option.{none, some}
 use Rattle.utf8.specs.Utf8.{Row, table, behind_in, tails_of}
-use Rattle.utf8.proofs.Ranges.{if-both, inside, below, above}
+use Rattle.utf8.proofs.Ranges.{inside, below, above}
 
 -- the first bytes of the first n rows are all less than `top`
 abbrev pub passed : ℕ → List Row → ℕ → Bool
@@ -16,7 +17,7 @@ unfolding behind_in
 pass zero rows top b t h = refl
 pass (suc n) [] top b t h = refl
 pass (suc n) (r ∷ rows) top b t h =
-    let w = if-both (ltb r.first.high top) (passed n rows top) t in
+    let w = and_parts (ltb r.first.high top) (passed n rows top) t in
     rw (above r.first b (omega (arith, ltb-true r.first.high top w.0))) (pass n rows top b w.1 h)
 
 -- the first bytes of all rows are at least `bottom`
@@ -28,7 +29,7 @@ under : (rows : List Row) (bottom b : ℕ) → over rows bottom ≡ true → b <
 unfolding behind_in
 under [] bottom b t h = refl
 under (r ∷ rows) bottom b t h =
-    let w = if-both (leb bottom r.first.low) (over rows bottom) t in
+    let w = and_parts (leb bottom r.first.low) (over rows bottom) t in
     rw (below r.first b (omega (arith, leb-true bottom r.first.low w.0))) (under rows bottom b w.1 h)
 
 fit : (r : Row) (rows : List Row) (b : ℕ) → r.first.low ≤ b → b ≤ r.first.high → behind_in (r ∷ rows) b ≡ some r.behind

@@ -85,12 +85,12 @@ module _ (s : List ℕ) (from to n : ℕ) (h : from ≤ to) (k : to ≤ length s
       ap trim_end (part-append s from (to - n) to (omega (arith, e.fits)) (omega arith))
       ∙ end-white (part s from (to - n)) (part s (to - n) to) (omega arith) (e.ends p ∙ sym l)
 
-  pub end_end : n ≡ 0 → from + length (trim_end (part s from to)) ≡ to
-  end_end z =
+  pub end_end : (all : ℕ) → trim_end (part s from all) ≡ trim_end (part s from to) → n ≡ 0 → to ≡ from + length (trim_end (part s from all))
+  end_end all same z =
       let l : length (part s from to) ≡ to - from = part_length s from to h k in
       let t : trim_end (part s from to) ≡ part s from to
       = end_none (part s from to) (λ i p q. e.none z (from + i) (omega arith) (omega arith) (sym (ap white_len (part-drop s from to i)) ∙ q ∙ omega arith)) in
-      omega (arith, ap length t)
+      omega (arith, ap length (same ∙ t))
 
 -- a white space character has at most three bytes, so that none ends a part where none of one, two or three bytes does
 module _ (s : List ℕ) (from to : ℕ) where

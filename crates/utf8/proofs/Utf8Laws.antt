@@ -1,15 +1,14 @@
 -- Where UTF-8 can be cut and joined: laws for proofs of code that takes parts of a text. Assumes nothing.
 use Rattle.std.specs.Str.{IsAscii}
 use Rattle.std.specs.Prelude.{if◌then◌else◌}
-use Rattle.std.proofs.Common.{◌≡◌, refl, sym, ap, ◌∙◌, List, [], ◌∷◌, ◌++◌, Bool, true, false, ◌&&◌, ◌||◌, ℕ, zero, suc, ◌+◌, ◌-◌, ◌≤◌, ◌<◌, arith, leb, ltb, eqb, length, get_or, take, drop, replicate, length-drop, drop_of_length-le, drop-cons, get_or-drop, take_all, leb-true, ltb-true, ltb-false, eqb-true}
-use Rattle.std.proofs.Math.Bool.{false≢true}
+use Rattle.std.proofs.Common.{◌≡◌, refl, sym, ap, ◌∙◌, List, [], ◌∷◌, ◌++◌, Bool, true, false, ◌&&◌, ◌||◌, ℕ, zero, suc, ◌≤◌, ◌<◌, arith, leb, ltb, eqb, length, get_or, take, drop, replicate, drop_of_length-le, drop-cons, take_all, leb-true, ltb-true, ltb-false, eqb-true}
+use Rattle.std.proofs.lemmas.Bool.{false≢true, and_parts}
 use Rattle.std.proofs.Math.Option.{Option, none, some}
 use Rattle.std.proofs.Math.Seq.{split_at}
 use Rattle.refusal.specs.Base.{maybe, empty}
 use Rattle.utf8.specs.Utf8.{Range, Row, ◌‥◌, within, tail, table, behind_in, tails_of, utf8_from, is_utf8}
-use Rattle.utf8.proofs.Ranges.{if-both, if-one, inside}
+use Rattle.utf8.proofs.Ranges.{if-one, inside}
 use Rattle.utf8.specs.White.{white1, white2, in2000, white3, white_at, leading_from, leading, trim_start, all_white, trim_end, trim}
-use Rattle.utf8.specs.Part.{part}
 use Rattle.utf8.proofs.Laws.{white-first, end-le, end_take}
 
 -- joined
@@ -24,7 +23,7 @@ from-append [] (b ∷ s) t e = go (tails_of b) e (λ due. from-append due s t)
         → maybe o false (λ due. utf8_from due (s ++ t)) ≡ utf8_from [] t
     go none p r = absurd (false≢true p)
     go (some due) p r = r due p
-from-append (r ∷ due) (b ∷ s) t e = rw (if-both (within r b) (utf8_from due s) e).0 (from-append due s t (if-both (within r b) (utf8_from due s) e).1)
+from-append (r ∷ due) (b ∷ s) t e = rw (and_parts (within r b) (utf8_from due s) e).0 (from-append due s t (and_parts (within r b) (utf8_from due s) e).1)
 
 pub utf8_append : (s t : List ℕ) → is_utf8 s ≡ true → is_utf8 (s ++ t) ≡ is_utf8 t
 unfolding is_utf8
@@ -61,10 +60,10 @@ all_tails (r ∷ rows) = tails r.behind && all_tails rows
 tails-in : (rows : List Row) (b : ℕ) (due : List Range) → all_tails rows ≡ true → behind_in rows b ≡ some due → tails due ≡ true
 unfolding behind_in
 tails-in [] b due t e = let z : ◌≡◌ {A = ℕ} 0 1 = cc in absurd (omega arith)
-tails-in (r ∷ rows) b due t e = go (within r.first b) e (tails-in rows b due (if-both (tails r.behind) (all_tails rows) t).1)
+tails-in (r ∷ rows) b due t e = go (within r.first b) e (tails-in rows b due (and_parts (tails r.behind) (all_tails rows) t).1)
   where
     go : (x : Bool) → (if x then some r.behind else behind_in rows b) ≡ some due → (behind_in rows b ≡ some due → tails due ≡ true) → tails due ≡ true
-    go true p f = let z : r.behind ≡ due = cc in sym (ap tails z) ∙ (if-both (tails r.behind) (all_tails rows) t).0
+    go true p f = let z : r.behind ≡ due = cc in sym (ap tails z) ∙ (and_parts (tails r.behind) (all_tails rows) t).0
     go false p f = f p
 
 tails_of_lem : (b : ℕ) (due : List Range) → tails_of b ≡ some due → tails due ≡ true
@@ -74,15 +73,15 @@ tails_of_lem b due e = tails-in table b due refl e
 not-due : (r : Range) (due : List Range) (b : ℕ) → tails (r ∷ due) ≡ true → Starts b → within r b ≡ true → ⊥
 unfolding within
 not-due r due b t n e =
-    let p = (if-both (leb 0x80 r.low && leb r.high 0xbf) (tails due) t).0 in
-    let q = if-both (leb 0x80 r.low) (leb r.high 0xbf) p in
-    let w = if-both (leb r.low b) (leb b r.high) e in
+    let p = (and_parts (leb 0x80 r.low && leb r.high 0xbf) (tails due) t).0 in
+    let q = and_parts (leb 0x80 r.low) (leb r.high 0xbf) p in
+    let w = and_parts (leb r.low b) (leb b r.high) e in
     n (omega (arith, leb-true 0x80 r.low q.0, leb-true r.low b w.0)) (omega (arith, leb-true r.high 0xbf q.1, leb-true b r.high w.1))
 
 from_cut : (due : List Range) (s : List ℕ) (b : ℕ) (t : List ℕ) → tails due ≡ true → Starts b → utf8_from due (s ++ b ∷ t) ≡ true → utf8_from due s ≡ true
 unfolding utf8_from maybe
 from_cut [] [] b t d n e = refl
-from_cut (r ∷ due) [] b t d n e = absurd (not-due r due b d n (if-both (within r b) (utf8_from due t) e).0)
+from_cut (r ∷ due) [] b t d n e = absurd (not-due r due b d n (and_parts (within r b) (utf8_from due t) e).0)
 from_cut [] (x ∷ s) b t d n e = go (tails_of x) refl e (λ due k. from_cut due s b t k n)
   where
     go : (o : Option (List Range)) → tails_of x ≡ o → maybe o false (λ due. utf8_from due (s ++ b ∷ t)) ≡ true
@@ -90,8 +89,8 @@ from_cut [] (x ∷ s) b t d n e = go (tails_of x) refl e (λ due k. from_cut due
     go none q p r = absurd (false≢true p)
     go (some due) q p r = r due (tails_of_lem x due q) p
 from_cut (r ∷ due) (x ∷ s) b t d n e =
-    let w = if-both (within r x) (utf8_from due (s ++ b ∷ t)) e in
-    rw w.0 (from_cut due s b t (if-both (leb 0x80 r.low && leb r.high 0xbf) (tails due) d).1 n w.1)
+    let w = and_parts (within r x) (utf8_from due (s ++ b ∷ t)) e in
+    rw w.0 (from_cut due s b t (and_parts (leb 0x80 r.low && leb r.high 0xbf) (tails due) d).1 n w.1)
 
 pub utf8-cut : (s : List ℕ) (b : ℕ) (t : List ℕ) → Starts b → is_utf8 (s ++ b ∷ t) ≡ true → (is_utf8 s ≡ true) × (is_utf8 (b ∷ t) ≡ true)
 unfolding is_utf8
@@ -111,13 +110,6 @@ utf8-split s k h n e = go (ltb k (length s)) refl
     go false p =
         let l : length s ≤ k = ltb-false k (length s) p in
         (ap is_utf8 (take_all k s l) ∙ e, ap is_utf8 (drop_of_length-le s l) ∙ utf8_nil)
-
--- a part is UTF-8 that begins and ends where a character does
-pub utf8-part : (s : List ℕ) (a e : ℕ) → a ≤ e → e ≤ length s → (a < length s → Starts (get_or s a 0)) → (e < length s → Starts (get_or s e 0)) → is_utf8 s ≡ true → is_utf8 (part s a e) ≡ true
-utf8-part s a e h k n m u =
-    let l : length (drop a s) ≡ length s - a = length-drop a s in
-    let z : a + (e - a) ≡ e = omega arith in
-    (utf8-split (drop a s) (e - a) (omega arith) (λ p. rw (get_or-drop a s (e - a) 0, z) (m (omega arith))) (utf8-split s a (omega arith) n u).1).0
 
 -- trimmed
 
@@ -147,15 +139,15 @@ module _ (b : ℕ) where
   due1 : white1 b ≡ true → tails_of b ≡ some []
   unfolding white1 within tails_of table behind_in
   due1 e = rw (inside (0x00 ‥ 0x7f) b (omega arith) (if-one (within (0x09 ‥ 0x0d) b) (eqb b 0x20) e
-      (λ p. omega (arith, leb-true b 0x0d (if-both (leb 0x09 b) (leb b 0x0d) p).1))
+      (λ p. omega (arith, leb-true b 0x0d (and_parts (leb 0x09 b) (leb b 0x0d) p).1))
       (λ p. omega (arith, eqb-true b 0x20 p))))
 
   due2 : (c : ℕ) → white2 b c ≡ true → tails_of b ≡ some (tail ∷ [])
   unfolding white2 within tails_of table behind_in
-  due2 c e = rw (eqb-true b 0xc2 (if-both (eqb b 0xc2) (eqb c 0x85 || eqb c 0xa0) e).0)
+  due2 c e = rw (eqb-true b 0xc2 (and_parts (eqb b 0xc2) (eqb c 0x85 || eqb c 0xa0) e).0)
 
   first-is : (n : ℕ) (p q : Bool) → eqb b n && p && q ≡ true → b ≡ n
-  first-is n p q e = eqb-true b n (if-both (eqb b n) p (if-both (eqb b n && p) q e).0).0
+  first-is n p q e = eqb-true b n (and_parts (eqb b n) p (and_parts (eqb b n && p) q e).0).0
 
   due3 : (c d : ℕ) → white3 b c d ≡ true → tails_of b ≡ some (tail ∷ tail ∷ [])
   unfolding white3 within tails_of table behind_in
@@ -201,7 +193,7 @@ from_start : (k : ℕ) (s : List ℕ) → utf8_from (replicate k tail) s ≡ tru
 unfolding utf8_from leading_from maybe
 from_start zero [] e = refl
 from_start (suc k) [] e = absurd (false≢true e)
-from_start (suc k) (b ∷ s) e = from_start k s (if-both (within tail b) (utf8_from (replicate k tail) s) e).1
+from_start (suc k) (b ∷ s) e = from_start k s (and_parts (within tail b) (utf8_from (replicate k tail) s) e).1
 from_start zero (b ∷ s) e = go (white_at b s) refl (λ k. from_start k s)
   where
     go : (o : Option ℕ) → white_at b s ≡ o → ((k : ℕ) → utf8_from (replicate k tail) s ≡ true → utf8_from [] (drop (leading_from k s) s) ≡ true)

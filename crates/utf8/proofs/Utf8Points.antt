@@ -3,10 +3,10 @@
 use Rattle.std.proofs.Common.{◌≡◌, refl, sym, ap, subst, ◌∙◌, List, [], ◌∷◌, ◌++◌, Bool, true, false, ◌&&◌, ℕ, zero, suc, ◌+◌, ◌-◌, ◌*◌, ◌/◌, ◌%◌, ◌≤◌, ◌<◌, ◌^◌, arith, leb, length, leb-true, leb-false, le-leb}
 use Rattle.std.proofs.Math.Bool.{false≢true}
 use Rattle.std.proofs.Math.Option.{Option, none, some}
-use Rattle.std.proofs.lemmas.Bool.{lt-leb}
+use Rattle.std.proofs.lemmas.Bool.{lt-leb, and_parts}
 use Rattle.refusal.specs.Base.{maybe}
 use Rattle.utf8.specs.Utf8.{Range, ◌‥◌, within, tail, table, tails_of, utf8_from, is_utf8}
-use Rattle.utf8.proofs.Ranges.{in-range, inside, below, above, if-both}
+use Rattle.utf8.proofs.Ranges.{in-range, inside, below, above}
 use Rattle.utf8.proofs.TableLaws.{in_row, no_row, past-rows}
 use Rattle.utf8.specs.Points.{six_of, encode, in_any, scalar}
 use Rattle.utf8.proofs.Utf8Laws.{utf8-ascii}
@@ -142,15 +142,10 @@ utf8_encode c s = go (leb c 0x7f) (leb c 0x7ff) (leb c 0xffff) refl refl refl
         rw (p, q, r) (three-bytes c s (omega arith) (omega arith))
     go false false false p q r = let h : 0xffff < c = leb-false c 0xffff r in rw (p, q, r) (four_bytes c s (omega arith))
 
--- code points, encoded one behind the other
+-- code points, encoded one behind the other: such a text is UTF-8 by `utf8_encode`
 pub data Coded : List ℕ → Type 0 where
   done : Coded []
   point : (c : ℕ) (s : List ℕ) → scalar c ≡ true → Coded s → Coded (encode c ++ s)
-
-pub coded-utf8 : {s : List ℕ} → Coded s → is_utf8 s ≡ true
-unfolding is_utf8 utf8_from
-coded-utf8 done = refl
-coded-utf8 (point c s e r) = utf8_encode c s ∙ rw e (coded-utf8 r)
 
 -- the code point of two, three and four bytes
 encode-two : (b d c : ℕ) (s : List ℕ) → c + 12416 ≡ b * 64 + d → 0xc2 ≤ b → b ≤ 0xdf → 0x80 ≤ d → d ≤ 0xbf → encode c ++ s ≡ b ∷ d ∷ s
@@ -200,33 +195,33 @@ module _ (b : ℕ) where
   unfolding utf8_from
   first_two [] h l e = absurd (false≢true e)
   first_two (d ∷ t) h l e =
-      let p = in-range tail d (if-both (within tail d) (utf8_from [] t) e).0 in
+      let p = in-range tail d (and_parts (within tail d) (utf8_from [] t) e).0 in
       let c = b * 64 + d - 12416 in
       record { point = c; rest = t; whole = encode-two b d c t (omega arith) h l p.0 p.1; less = omega arith }
 
   first_three : (r : Range) (t : List ℕ) → 0xe0 ≤ b → b ≤ 0xef → 0x80 ≤ r.low → r.high ≤ 0xbf → 14368 ≤ b * 64 + (r.low - 0x80) → utf8_from (r ∷ tail ∷ []) t ≡ true → Begins (b ∷ t)
   unfolding utf8_from
   first_three r [] h l m n o e = absurd (false≢true e)
-  first_three r (d ∷ []) h l m n o e = absurd (false≢true (if-both (within r d) false e).1)
+  first_three r (d ∷ []) h l m n o e = absurd (false≢true (and_parts (within r d) false e).1)
   first_three r (d ∷ f ∷ t) h l m n o e =
-      let v = if-both (within r d) (within tail f && utf8_from [] t) e in
+      let v = and_parts (within r d) (within tail f && utf8_from [] t) e in
       let p = in-range r d v.0 in
-      let q = in-range tail f (if-both (within tail f) (utf8_from [] t) v.1).0 in
+      let q = in-range tail f (and_parts (within tail f) (utf8_from [] t) v.1).0 in
       let c = b * 4096 + d * 64 + f - 925824 in
       record { point = c; rest = t; whole = encode-three b d f c t (omega arith) (omega arith) l (omega arith) (omega arith) q.0 q.1; less = omega arith }
 
   first-four : (r : Range) (t : List ℕ) → 0xf0 ≤ b → 0x80 ≤ r.low → r.high ≤ 0xbf → 15376 ≤ b * 64 + (r.low - 0x80) → utf8_from (r ∷ tail ∷ tail ∷ []) t ≡ true → Begins (b ∷ t)
   unfolding utf8_from
   first-four r [] h m n o e = absurd (false≢true e)
-  first-four r (d ∷ []) h m n o e = absurd (false≢true (if-both (within r d) false e).1)
+  first-four r (d ∷ []) h m n o e = absurd (false≢true (and_parts (within r d) false e).1)
   first-four r (d ∷ f ∷ []) h m n o e =
-      absurd (false≢true (if-both (within tail f) false (if-both (within r d) (within tail f && false) e).1).1)
+      absurd (false≢true (and_parts (within tail f) false (and_parts (within r d) (within tail f && false) e).1).1)
   first-four r (d ∷ f ∷ g ∷ t) h m n o e =
-      let u = if-both (within r d) (within tail f && (within tail g && utf8_from [] t)) e in
-      let v = if-both (within tail f) (within tail g && utf8_from [] t) u.1 in
+      let u = and_parts (within r d) (within tail f && (within tail g && utf8_from [] t)) e in
+      let v = and_parts (within tail f) (within tail g && utf8_from [] t) u.1 in
       let p = in-range r d u.0 in
       let q = in-range tail f v.0 in
-      let w = in-range tail g (if-both (within tail g) (utf8_from [] t) v.1).0 in
+      let w = in-range tail g (and_parts (within tail g) (utf8_from [] t) v.1).0 in
       let c = b * 2 ^ 18 + d * 4096 + f * 64 + g - 63447168 in
       record { point = c; rest = t; whole = encode-four b d f g c t (omega arith) (omega arith) (omega arith) (omega arith) q.0 q.1 w.0 w.1; less = omega arith }
 
@@ -256,7 +251,7 @@ coded-up-to zero (b ∷ t) h e = absurd (omega arith)
 coded-up-to (suc n) [] h e = done
 coded-up-to (suc n) (b ∷ t) h e =
     let f = first b t e in
-    let w = if-both (scalar f.point) (is_utf8 f.rest) (sym (utf8_encode f.point f.rest) ∙ ap is_utf8 f.whole ∙ e) in
+    let w = and_parts (scalar f.point) (is_utf8 f.rest) (sym (utf8_encode f.point f.rest) ∙ ap is_utf8 f.whole ∙ e) in
     subst Coded f.whole (point f.point f.rest w.0 (coded-up-to n f.rest (omega arith) w.1))
 
 pub utf8-coded : (s : List ℕ) → is_utf8 s ≡ true → Coded s

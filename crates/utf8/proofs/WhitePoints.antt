@@ -1,28 +1,17 @@
 -- The white space of a text is that of its code points: a text that begins with a code point begins with white space just where
 -- document 01 counts the code point as white space, and the white space character is as long as the code point's UTF-8. Assumes nothing.
 use Rattle.std.specs.Prelude.{if◌then◌else◌}
-use Rattle.std.proofs.Common.{◌≡◌, refl, sym, ◌∙◌, List, [], ◌∷◌, ◌++◌, Bool, true, false, ◌&&◌, ◌||◌, ℕ, ◌+◌, ◌/◌, ◌%◌, ◌≤◌, ◌<◌, ◌^◌, arith, leb, eqb, length, drop, leb-true, leb-false, eqb-true, ne_eqb}
-use Rattle.std.proofs.Math.Bool.{false≢true}
+use Rattle.std.proofs.Common.{◌≡◌, refl, sym, ◌∙◌, List, [], ◌∷◌, ◌++◌, Bool, true, false, ◌&&◌, ◌||◌, ℕ, ◌+◌, ◌/◌, ◌%◌, ◌≤◌, ◌<◌, ◌^◌, arith, leb, eqb, length, drop, leb-true, leb-false, eqb-true}
+use Rattle.std.proofs.lemmas.Bool.{false≢true, and_parts}
 use Rattle.refusal.specs.Base.{maybe}
 use Rattle.utf8.specs.Utf8.{Range, ◌‥◌, within}
-use Rattle.utf8.proofs.Ranges.{inside, above, if-both, if-one}
+use Rattle.utf8.proofs.Ranges.{inside, above, if-one}
 use Rattle.utf8.specs.White.{white1, white2, in2000, white3, white_at, white_len}
+use Rattle.utf8.proofs.Laws.{not-one, not-two, not_three}
 use Rattle.utf8.specs.Points.{six_of, encode, white_points, in_any, white_point}
 
 -- the length of a white space character, by the tests of its bytes
 module _ (a : ℕ) where
-  not-two : (a ≡ 0xc2 → ⊥) → (b : ℕ) → white2 a b ≡ false
-  unfolding white2
-  not-two n b = rw (ne_eqb a 0xc2 n)
-
-  not_three : (a ≡ 0xe1 → ⊥) → (a ≡ 0xe2 → ⊥) → (a ≡ 0xe3 → ⊥) → (b c : ℕ) → white3 a b c ≡ false
-  unfolding white3
-  not_three n m k b c = rw (ne_eqb a 0xe1 n, ne_eqb a 0xe2 m, ne_eqb a 0xe3 k)
-
-  not-one : 0x20 < a → white1 a ≡ false
-  unfolding white1
-  not-one h = rw (above (0x09 ‥ 0x0d) a (omega arith), ne_eqb a 0x20 (λ e. omega arith))
-
   len-one : ((b : ℕ) → white2 a b ≡ false) → ((b c : ℕ) → white3 a b c ≡ false) → (s : List ℕ) → white_len (a ∷ s) ≡ (if white1 a then 1 else 0)
   unfolding white_len white_at maybe
   len-one n m s = go (white1 a) refl s
@@ -40,18 +29,18 @@ module _ (a : ℕ) where
   len-two h b m s = go (white2 a b) refl s
     where
       go : (x : Bool) → white2 a b ≡ x → (t : List ℕ) → white_len (a ∷ b ∷ t) ≡ (if x then 2 else 0)
-      go true p [] = rw (not-one h, p)
-      go true p (c ∷ t) = rw (not-one h, p)
-      go false p [] = rw (not-one h, p)
-      go false p (c ∷ t) = rw (not-one h, p, m c)
+      go true p [] = rw (not-one a h, p)
+      go true p (c ∷ t) = rw (not-one a h, p)
+      go false p [] = rw (not-one a h, p)
+      go false p (c ∷ t) = rw (not-one a h, p, m c)
 
   len-three : 0x20 < a → (b : ℕ) → white2 a b ≡ false → (c : ℕ) (s : List ℕ) → white_len (a ∷ b ∷ c ∷ s) ≡ (if white3 a b c then 3 else 0)
   unfolding white_len white_at maybe
   len-three h b p c s = go (white3 a b c) refl
     where
       go : (x : Bool) → white3 a b c ≡ x → white_len (a ∷ b ∷ c ∷ s) ≡ (if x then 3 else 0)
-      go true q = rw (not-one h, p, q)
-      go false q = rw (not-one h, p, q)
+      go true q = rw (not-one a h, p, q)
+      go false q = rw (not-one a h, p, q)
 
 iff : (x y : Bool) → (x ≡ true → y ≡ true) → (y ≡ true → x ≡ true) → x ≡ y
 iff true y f g = sym (f refl)
@@ -63,7 +52,7 @@ found : (r : Range) (rs : List Range) (c : ℕ) {X : Type 0} → in_any (r ∷ r
 unfolding in_any within
 found r rs c e f g =
     if-one (within r c) (in_any rs c) e
-    (λ p. let w = if-both (leb r.low c) (leb c r.high) p in f (leb-true r.low c w.0) (leb-true c r.high w.1))
+    (λ p. let w = and_parts (leb r.low c) (leb c r.high) p in f (leb-true r.low c w.0) (leb-true c r.high w.1))
     g
 
 -- all ranges begin at `bottom` or later
@@ -75,13 +64,13 @@ before : (rs : List Range) (bottom c : ℕ) {X : Type 0} → over rs bottom ≡ 
 unfolding in_any
 before [] bottom c t h e = absurd (false≢true e)
 before (r ∷ rs) bottom c t h e =
-    let w = if-both (leb bottom r.low) (over rs bottom) t in
+    let w = and_parts (leb bottom r.low) (over rs bottom) t in
     found r rs c e (λ l u. absurd (omega (arith, leb-true bottom r.low w.0))) (before rs bottom c w.1 h)
 
 all : (a b n m : ℕ) (q : Bool) {X : Type 0} → eqb a n && eqb b m && q ≡ true → (a ≡ n → b ≡ m → q ≡ true → X) → X
 all a b n m q e f =
-    let w = if-both (eqb a n && eqb b m) q e in
-    let v = if-both (eqb a n) (eqb b m) w.0 in
+    let w = and_parts (eqb a n && eqb b m) q e in
+    let v = and_parts (eqb a n) (eqb b m) w.0 in
     f (eqb-true a n v.0) (eqb-true b m v.1) w.1
 
 module _ (c : ℕ) where
@@ -100,7 +89,7 @@ module _ (c : ℕ) where
   unfolding white2 six_of white_point white_points in_any within
   two_bytes h k =
       iff (white2 (0xc0 + c / 64) (six_of c)) (white_point c)
-      (λ e. let w = if-both (eqb (0xc0 + c / 64) 0xc2) (eqb (six_of c) 0x85 || eqb (six_of c) 0xa0) e in
+      (λ e. let w = and_parts (eqb (0xc0 + c / 64) 0xc2) (eqb (six_of c) 0x85 || eqb (six_of c) 0xa0) e in
       let a : 0xc0 + c / 64 ≡ 0xc2 = eqb-true (0xc0 + c / 64) 0xc2 w.0 in
       if-one (eqb (six_of c) 0x85) (eqb (six_of c) 0xa0) w.1
       (λ p. let b : 0x80 + c % 64 ≡ 0x85 = eqb-true (six_of c) 0x85 p in let z : c ≡ 0x85 = omega arith in rw z)
@@ -122,10 +111,10 @@ module _ (c : ℕ) where
         (λ e. all a b 0xe1 0x9a (eqb d 0x80) e λ p q r. let t : d ≡ 0x80 = eqb-true d 0x80 r in let z : c ≡ 0x1680 = omega arith in rw z)
         (λ e. all a b 0xe2 0x80 (in2000 d) e λ p q r. if-one (within (0x80 ‥ 0x8a) d || within (0xa8 ‥ 0xa9) d) (eqb d 0xaf) r
         (λ e. if-one (within (0x80 ‥ 0x8a) d) (within (0xa8 ‥ 0xa9) d) e
-        (λ e. let w = if-both (leb 0x80 d) (leb d 0x8a) e in
+        (λ e. let w = and_parts (leb 0x80 d) (leb d 0x8a) e in
         let l : d ≤ 0x8a = leb-true d 0x8a w.1 in
         rw (above (0x9 ‥ 0xd) c (omega arith), above (0x20 ‥ 0x20) c (omega arith), above (0x85 ‥ 0x85) c (omega arith), above (0xa0 ‥ 0xa0) c (omega arith), above (0x1680 ‥ 0x1680) c (omega arith), inside (0x2000 ‥ 0x200a) c (omega arith) (omega arith)))
-        (λ e. let w = if-both (leb 0xa8 d) (leb d 0xa9) e in
+        (λ e. let w = and_parts (leb 0xa8 d) (leb d 0xa9) e in
         let l : 0xa8 ≤ d = leb-true 0xa8 d w.0 in
         let u : d ≤ 0xa9 = leb-true d 0xa9 w.1 in
         rw (above (0x9 ‥ 0xd) c (omega arith), above (0x20 ‥ 0x20) c (omega arith), above (0x85 ‥ 0x85) c (omega arith), above (0xa0 ‥ 0xa0) c (omega arith), above (0x1680 ‥ 0x1680) c (omega arith), above (0x2000 ‥ 0x200a) c (omega arith), inside (0x2028 ‥ 0x2029) c (omega arith) (omega arith))))

@@ -1,5 +1,5 @@
 -- The item at a place, as `header_at(..).ok()` tells it. Assumes nothing.
-use Rattle.std.proofs.Common.{◌≡◌, refl, sym, ap, ◌∙◌, ℕ, arith, List, drop}
+use Rattle.std.proofs.Common.{◌≡◌, refl, sym, ◌∙◌, ℕ, arith, List, drop}
 use Rattle.std.proofs.Math.Option.{none}
 use Rattle.std.specs.Prelude.{Result, Ok, Err, Option, None, Some}
 use Rattle.std.specs.Result.{result_ok}
@@ -9,22 +9,20 @@ use Rattle.item.specs.declared.Item.{Item}
 use Rattle.item.specs.declared.Broken.{Broken}
 use Rattle.item.proofs.Headers.{no_header}
 
-pub is-ok : {r : Result Item Broken} {item : Item} → Some item ≡ result_ok r → r ≡ Ok item
-is-ok {r} {item} e = go r e
-  where
-    go : (r : Result Item Broken) → Some item ≡ result_ok r → r ≡ Ok item
-    go (Ok other) e = let same : other ≡ item = cc in ap Ok same
-    go (Err broken) e = let z : ◌≡◌ {A = ℕ} 0 1 = cc in absurd (omega arith)
+module _ {T E : Type 0} where
+  pub is-ok : {r : Result T E} {x : T} → Some x ≡ result_ok r → r ≡ Ok x
+  is-ok {r} {x} e = go r e
+    where
+      go : (r : Result T E) → Some x ≡ result_ok r → r ≡ Ok x
+      go (Ok other) e = cc
+      go (Err broken) e = let z : ◌≡◌ {A = ℕ} 0 1 = cc in absurd (omega arith)
 
-pub is-err : {r : Result Item Broken} → None ≡ result_ok r → (broken : Broken) × (r ≡ Err broken)
-is-err {r} e = go r e
-  where
-    go : (r : Result Item Broken) → None ≡ result_ok r → (broken : Broken) × (r ≡ Err broken)
-    go (Ok item) e = let z : ◌≡◌ {A = ℕ} 0 1 = cc in absurd (omega arith)
-    go (Err broken) e = (broken, refl)
-
-pub there : (s : List ℕ) (at : ℕ) {item : Item} → Some item ≡ result_ok (header_at s at) → Ok item ≡ header_at s at
-there s at e = sym (is-ok e)
+  pub is-err : {r : Result T E} → None ≡ result_ok r → (e : E) × (r ≡ Err e)
+  is-err {r} e = go r e
+    where
+      go : (r : Result T E) → None ≡ result_ok r → (e : E) × (r ≡ Err e)
+      go (Ok x) e = let z : ◌≡◌ {A = ℕ} 0 1 = cc in absurd (omega arith)
+      go (Err broken) e = (broken, refl)
 
 pub ok_item : {o : Option Item} {r : Result Item Broken} {item : Item} → o ≡ Some item → o ≡ result_ok r → r ≡ Ok item
 ok_item a b = is-ok (sym a ∙ b)

@@ -1,7 +1,8 @@
 -- A turn of each loop: what is left to be read decides as all of it does. Assumes nothing.
 use Rattle.std.specs.Prelude.{if◌then◌else◌}
-use Rattle.std.proofs.Common.{◌≡◌, refl, sym, ap, ◌∙◌, ℕ, zero, suc, ◌+◌, ◌-◌, ◌≤◌, ◌<◌, arith, List, [], ◌∷◌, Bool, true, false, ◌&&◌, ◌||◌, not, length, take, drop, drop_of_length-le, length-take, length-drop, take_all, ne_eqb, eqb-true, eqb}
-use Rattle.std.proofs.lemmas.Bool.{false≢true, eqb-false}
+use Rattle.std.proofs.Common.{◌≡◌, refl, sym, ap, ◌∙◌, ℕ, zero, suc, ◌+◌, ◌-◌, ◌≤◌, ◌<◌, arith, List, [], ◌∷◌, Bool, true, false, ◌&&◌, ◌||◌, not, length, take, drop, drop_of_length-le, length-drop, ne_eqb, eqb-true, eqb}
+use Rattle.std.proofs.lemmas.Bool.{false≢true, eqb-false, and_parts}
+use Rattle.std.proofs.lemmas.List.{take_rest}
 use Rattle.std.proofs.Math.Option.{Option, none, some, none-ne-some, some-injective}
 use Rattle.refusal.specs.Base.{maybe}
 use Rattle.refusal.proofs.Tools.{chosen}
@@ -9,7 +10,7 @@ use Rattle.utf8.specs.Utf8.{is_utf8}
 use Rattle.item.specs.Tree.{Yaml, Items, Entries, ◌▸◌, done, pair, has_key}
 use Rattle.item.specs.Encode.{encode, Bytes}
 use Rattle.item.specs.Decode.{◌>>=◌, header, unkey, decode_items, decode_entries, decode}
-use Rattle.item.proofs.Exact.{got, none≢, and_left, and_right, entries-inv, decode-exact}
+use Rattle.item.proofs.Exact.{got, none≢, entries-inv, decode-exact}
 use Rattle.meaning.specs.Sound.{sound}
 use Rattle.value.specs.Tree.{tree, accepts, accepts_items, accepts_entries}
 use Rattle.entries.specs.Entries.{Lies, key_twice}
@@ -23,16 +24,6 @@ use Rattle.item.specs.declared.Broken.{Broken}
 use Rattle.item.proofs.HeaderPlaces.{at_cut}
 use Rattle.item.proofs.Headers.{spans, header-item, no_header as no-item-there}
 use Rattle.std.specs.Prelude.{Ok, Err, None}
-
--- ---- parts
-
--- up to the end
-pub whole-rest : (s : List ℕ) (i : ℕ) → take (length s - i) (drop i s) ≡ drop i s
-whole-rest s i = take_all (length s - i) (drop i s) (omega (arith, length-drop i s))
-
--- a part is no longer than the whole
-pub part_small : {m : ℕ} (s : List ℕ) (i n : ℕ) → length s ≤ m → length (take n (drop i s)) ≤ m
-part_small s i n h = simp (length-take, length-drop) (omega arith)
 
 -- ---- trees
 
@@ -258,7 +249,7 @@ module _ (l : ℕ) (s : List ℕ) where
       go none p e = absurd (false≢true (sym e))
       go (some es) p e =
           let is : s ≡ encode es = entries-inv (λ r. decode l r) (decode-exact l) (length s) s es bytes p in
-          let lies : Lies s 0 (length s) es = lies-between s 0 (length s) es (omega arith) (omega arith) (whole-rest s 0 ∙ is) in
+          let lies : Lies s 0 (length s) es = lies-between s 0 (length s) es (omega arith) (omega arith) (take_rest s 0 ∙ is) in
           sym (sound-each es ∙ rw (sym e) (ap not (sym (twice es lies))))
 
 -- where a loop over entries stands
@@ -266,9 +257,6 @@ pub record Entries-left (l : ℕ) (s : List ℕ) (at : ℕ) : Type 0 where
   pub turns : ℕ
   pub enough : length s - at ≤ turns
   pub whole : entries_in l (length s) s ≡ entries_in l turns (drop at s)
-
-pub entries-start : (l : ℕ) (s : List ℕ) → Entries-left l s 0
-entries-start l s = record { turns = length s; enough = omega arith; whole = refl }
 
 module _ {l : ℕ} {s : List ℕ} {at : ℕ} (w : Entries-left l s at) where
   pub entries-end : length s ≤ at → true ≡ entries_in l (length s) s
@@ -310,7 +298,7 @@ module _ (l : ℕ) (s : List ℕ) (at : ℕ) {key : Item} (h : Ok key ≡ header
 
   module _ (is_text : eqb key.kind 3 && is_utf8 text ≡ true) where
     three : key.kind ≡ 3
-    three = eqb-true key.kind 3 (and_left (eqb key.kind 3) (is_utf8 text) is_text)
+    three = eqb-true key.kind 3 (and_parts _ _ is_text).0
 
     pub beside-bad : tree l (drop key.to s) ≡ none → (t : ℕ) → entries_in l (suc t) (drop at s) ≡ false
     beside-bad e t = value-refused l (drop at s) long t key.kind text (drop key.to s) (header-item s at h) three e
@@ -319,7 +307,7 @@ module _ (l : ℕ) (s : List ℕ) (at : ℕ) {key : Item} (h : Ok key ≡ header
     entry-read {to} r =
         let i = spans s at h in
         record {
-          is = λ t. value_taken l (drop at s) long t key.kind text (drop key.to s) (header-item s at h) three r.value (drop to s) r.is (and_right (eqb key.kind 3) (is_utf8 text) is_text);
+          is = λ t. value_taken l (drop at s) long t key.kind text (drop key.to s) (header-item s at h) three r.value (drop to s) r.is (and_parts _ _ is_text).1;
           forward = omega (arith, r.forward, i.start, i.order);
           fits = r.fits;
         }

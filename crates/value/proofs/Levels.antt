@@ -1,12 +1,13 @@
 -- A tree that was read has no more levels than were allowed, and a sound tree is read back. Assumes nothing.
-use Rattle.std.proofs.Common.{◌≡◌, refl, subst, ℕ, zero, suc, ◌^◌, ◌≤◌, ◌<◌, le_refl, arith, List, [], ◌∷◌, ◌++◌, true, ◌&&◌, not, eqb, length, ltb-true}
+use Rattle.std.proofs.Common.{◌≡◌, refl, subst, ℕ, zero, suc, ◌^◌, ◌≤◌, ◌<◌, le_refl, arith, List, [], ◌∷◌, ◌++◌, true, not, eqb, length, ltb-true}
+use Rattle.std.proofs.lemmas.Bool.{and_parts}
 use Rattle.std.proofs.Math.Option.{Option, none, some, some-injective}
 use Rattle.refusal.proofs.Tools.{chosen}
 use Rattle.utf8.specs.Utf8.{is_utf8}
 use Rattle.item.specs.Tree.{Shape, Node, Yaml, null, bool, int, str, seq, dict, Items, end, ◌▸◌, Entries, done, pair, has_key, levels, Ranged}
 use Rattle.item.specs.Encode.{encode}
 use Rattle.item.specs.Decode.{◌>>=◌, Decoder, header, unflag, unint, unkey, decode_items, decode_entries, content_of, node, decode}
-use Rattle.item.proofs.Exact.{got, none≢, nothing-inv, and_left, and_right}
+use Rattle.item.proofs.Exact.{got, none≢, nothing-inv}
 use Rattle.item.proofs.RoundTrip.{back}
 use Rattle.meaning.specs.Sound.{sound}
 use Rattle.value.specs.Tree.{tree}
@@ -71,12 +72,11 @@ ranged (str s) h = tt
 ranged (seq ys) h = ranged ys h
 ranged (dict es) h = ranged es h
 ranged end h = tt
-ranged (y ▸ ys) h = (ranged y (and_left (sound y) (sound ys) h), ranged ys (and_right (sound y) (sound ys) h))
+ranged (y ▸ ys) h = let p = and_parts (sound y) (sound ys) h in (ranged y p.0, ranged ys p.1)
 ranged done h = tt
 ranged (pair k v es) h =
-    let a : (not (has_key k es) && (sound v && sound es)) ≡ true = and_right (is_utf8 k) _ h in
-    let b : (sound v && sound es) ≡ true = and_right (not (has_key k es)) _ a in
-    (ranged v (and_left (sound v) (sound es) b), ranged es (and_right (sound v) (sound es) b))
+    let p = and_parts (sound v) (sound es) (and_parts (not (has_key k es)) _ (and_parts (is_utf8 k) _ h).1).1 in
+    (ranged v p.0, ranged es p.1)
 
 pub tree-back : (l : ℕ) (y : Yaml) (r : List ℕ) → sound y ≡ true → levels y ≤ l → length (encode y) < 256 ^ 4 → tree l (encode y ++ r) ≡ some (y, r)
 unfolding tree ◌>>=◌

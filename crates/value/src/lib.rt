@@ -24,27 +24,24 @@ pub fn is_text(s: &[u8], item: Item) -> bool
 fn flag(content: &[u8]) -> bool
     ensures { result ≡ accepts 0 1 content.now }
 {
-    content.len() == 1 && content[0] < 2
+    matches!(content, [0 | 1])
 }
 
 // Whether this is the content of a value of this kind: its kind and its content apart, as the definition has them. Put into the walks that
-// ask it, so that a scalar costs no call.
+// ask it, so that a scalar costs no call. `all` tells the proof that the content is bytes, of which any eight are an integer of 64 bits.
 #[inline(always)]
 #[cycle(values)]
 #[tactic(auto, using(crate::proofs::Contents::null_content, crate::proofs::Contents::flag_content, crate::proofs::Contents::int_content, crate::proofs::Contents::string_content, crate::proofs::Contents::sequence_content, crate::proofs::Contents::mapping_content, crate::proofs::Contents::too_deep), unfolding(item::specs::Kinds::number_of))]
 fn value(kind: usize, content: Encoded<'_>, levels: usize) -> bool
     ensures { result ≡ accepts levels kind content.entry.bytes.now }
 {
-    let Ok(kind) = Kind::try_from(kind) else {
-        return false;
-    };
-    match kind {
-        Kind::Null => content.bytes.is_empty(),
-        Kind::Bool => flag(content.bytes),
-        Kind::Int => content.all().len() == 8,
-        Kind::Str => is_utf8(content.bytes),
-        Kind::Seq => levels > 0 && items(content, levels - 1),
-        Kind::Map => levels > 0 && entries(content, levels - 1),
+    match Kind::try_from(kind) {
+        Ok(Kind::Null) => content.bytes.is_empty(),
+        Ok(Kind::Bool) => flag(content.bytes),
+        Ok(Kind::Int) => content.all().len() == 8,
+        Ok(Kind::Str) => is_utf8(content.bytes),
+        Ok(Kind::Seq) => levels > 0 && items(content, levels - 1),
+        Ok(Kind::Map) => levels > 0 && entries(content, levels - 1),
         _ => false,
     }
 }
@@ -80,10 +77,7 @@ fn entries(s: Encoded<'_>, levels: usize) -> bool
         if !is_text(s.bytes, key) {
             return false;
         }
-        let Some(item) = walk.next() else {
-            return false;
-        };
-        let Ok(item) = item else {
+        let Some(Ok(item)) = walk.next() else {
             return false;
         };
         if !value(item.kind, s.slice(item.from, item.to), levels) {

@@ -1,14 +1,16 @@
 -- How calls on a writer add up: bytes behind bytes, an item's content behind its header, a header filled in behind its content. Assumes
 -- nothing.
-use Rattle.std.proofs.Common.{◌≡◌, refl, sym, ap, ◌∙◌, ℕ, suc, ◌+◌, ◌-◌, ◌≤◌, add-zero, arith, List, [], ◌∷◌, ◌++◌, append_assoc, length, set, take, drop, replicate, length-append, take-take, drop-drop}
-use Rattle.std.proofs.Math.ListN.{length-replicate}
-use Rattle.std.proofs.Math.Seq.{sets, sets-eq, length-sets, take-set-le}
-use borrow.Rule.Slice.PartMut.{put_mid}
+use Rattle.std.proofs.Common.{◌≡◌, refl, sym, ap, ◌∙◌, ℕ, suc, ◌+◌, ◌-◌, ◌≤◌, add-zero, arith, List, [], ◌∷◌, ◌++◌, length, set, take, length-append, length-take-le, take-take}
+use Rattle.std.proofs.Math.Seq.{sets, length-sets, take-set-le}
 use Rattle.item.specs.Encode.{head, item}
 use Rattle.item.proofs.Size.{head-length, item-length}
 use Rattle.item.proofs.Runs.{sets-append, sets-before, sets_item}
 use Rattle.writer.specs.declared.Writer.{Writer}
 use Rattle.writer.specs.Writing.{Appends, Begins, Fills, Keeps, CutsBack}
+
+-- the bytes that are used, lent as bytes of their own
+pub written_length : (w : Writer) {bytes : List ℕ} → bytes ≡ take w.used w.out.now → length bytes ≡ w.used
+written_length w e = ap length e ∙ length-take-le w.used w.out.now w.within
 
 pub appends_none : (w : Writer) → Appends w w []
 appends_none w = record { same_reference = refl; out = refl; used = sym (add-zero w.used) }
@@ -52,13 +54,6 @@ filled {a} {b} {c} {d} {header} kind {content} p q r =
           ∙ sets-before (head kind (length content)) content a.out.now a.used;
       used = omega (arith, p.used, q.used, r.used, item-length kind content);
     }
-
--- a part that is filled
-pub part_filled : (out ys : List ℕ) (at n v : ℕ) → at + n ≤ length out → ys ≡ replicate n v → put_mid at (at + n - at) out ys ≡ sets out at (replicate n v)
-part_filled out ys at n v h e =
-    let k : at + n - at ≡ n = omega arith in
-    let l : length (replicate n v) ≡ n = length-replicate n v in
-    rw (k, e, drop-drop n at out, sets-eq (replicate n v) out at (omega arith), l) (sym (append_assoc (take at out) (replicate n v) (drop (at + n) out)))
 
 -- ---- what is kept
 

@@ -1,11 +1,8 @@
 -- How many bytes items have, by their kinds. Assumes nothing.
 use Rattle.std.proofs.Common.{◌≡◌, ℕ, ◌+◌, List, length, Bool, ℤ}
 use Rattle.item.specs.Tree.{null, bool, int, str}
-use Rattle.item.specs.Encode.{head, encode}
+use Rattle.item.specs.Encode.{encode}
 use Rattle.item.proofs.Size.{head-length, encode-size}
-
-pub head_size : (kind size : ℕ) → length (head kind size) ≡ 6
-head_size = head-length
 
 pub null_size : length (encode null) ≡ 6
 null_size = encode-size null
@@ -19,4 +16,4 @@ int_size z = encode-size (int z)
 pub str_size : (s : List ℕ) → length (encode (str s)) ≡ 6 + length s
 str_size s = encode-size (str s)
 
-pub ruleset sizes = (head_size, null_size, bool_size, int_size, str_size)
+pub ruleset sizes = (head-length, null_size, bool_size, int_size, str_size)

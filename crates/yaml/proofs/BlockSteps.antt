@@ -10,6 +10,7 @@ use Rattle.utf8.proofs.Laws.{trim-nil}
 use Rattle.item.specs.Tree.{Yaml, Items, Entries, end, ◌▸◌, ◌◂◌, done, pair, add, has_key, levels}
 use Rattle.item.specs.Tree as Tree
 use Rattle.item.proofs.Size.{size}
+use Rattle.item.proofs.Joined.{◌⋈◌, add-more, none_more}
 use Rattle.lines.specs.Lines.{Line, line}
 use Rattle.scalar.specs.Scalars.{key_text}
 use Rattle.scalar.specs.Key.{key_end, key_end_from}
@@ -31,7 +32,7 @@ use Rattle.yaml.specs.Block.{Chomp, strip, clip, mark, Literal, Key, key}
 use Rattle.yaml.specs.Kept.{KeptFlow, KeptKey, KeptLiteral, KeyFound, NoKey, starts}
 use Rattle.yaml.proofs.Parts.{lines_of, Below, strips, ReadsLiteral}
 use Rattle.yaml.proofs.Trees.{scalar-levels, key-size}
-use Rattle.yaml.proofs.Grow.{◌⋈◌, add-more, none_more, Apart, apart-add, apart-done, ◌▸▸◌, snoc-more, no_more}
+use Rattle.yaml.proofs.Grow.{Apart, apart-add, apart-done, ◌▸▸◌, snoc-more, no_more}
 use Rattle.yaml.proofs.FlowReads.{flow-reads}
 use Rattle.yaml.proofs.LiteralReads.{comments-none, reads-literal}
 use Rattle.yaml.proofs.Whites.{whites-spaces, start-front, trim-front, trim-behind}

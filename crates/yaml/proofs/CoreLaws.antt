@@ -1,12 +1,12 @@
 -- The core schema's regular expressions against the definitions of the crate `scalar`: plain scalars resolve alike. Assumes nothing.
 use Rattle.std.specs.Prelude.{if◌then◌else◌}
 use Rattle.std.proofs.Common.{◌≡◌, refl, sym, ◌∙◌, subst, ⊎_elim, ℕ, zero, suc, ◌+◌, ◌*◌, ◌-◌, ◌^◌, ◌≤◌, arith, List, [], ◌∷◌, Bool, true, false, ◌&&◌, ◌||◌, not, true≢false, eqb, leb, ℤ, pos, neg_ℤ, eqb-true, ne_eqb, le-leb, leb-true, ltb-true}
-use Rattle.std.proofs.lemmas.Bool.{eqb-false, lt-leb}
+use Rattle.std.proofs.lemmas.Bool.{eqb-false, lt-leb, or_parts, cases_Bool, and_parts, or_cases}
 use Rattle.std.proofs.Math.Bool.{or-true, or-false, or_comm, and-or_distrib_right}
 use Rattle.std.proofs.Math.Option.{none, some, none-ne-some}
 use Rattle.refusal.specs.Base.{ch, bytes, same, one_of, empty}
 use Rattle.utf8.specs.Utf8.{Range, ◌‥◌, within}
-use Rattle.utf8.proofs.Ranges.{if-both, if-one, in-range, inside}
+use Rattle.utf8.proofs.Ranges.{if-one, in-range, inside}
 use Rattle.utf8.specs.Points.{in_any}
 use Rattle.item.specs.Tree.{Yaml}
 use Rattle.item.specs.Tree as Tree
@@ -19,7 +19,7 @@ use Rattle.yaml.specs.Core.{false_text, decimal_text, octal_text, hex_text, floa
 use Rattle.yaml.specs.Core.{to_octal, to_hex, to_float, to_str}
 use Rattle.yaml.specs.Core as C
 use Rattle.yaml.specs.Kept.{KeptCore}
-use Rattle.yaml.proofs.Tests.{is_true, is_false, test, neither, All}
+use Rattle.yaml.proofs.Tests.{is_true, is_false, All}
 use Rattle.yaml.proofs.Trees.{some-eq}
 
 -- ---- regular expressions
@@ -209,7 +209,7 @@ digit_value b h = let k = in-range (ch "0" ‥ ch "9") b h in rw (lt-leb 97 b (o
 number_is : (n : ℕ) (s : List ℕ) → all_digits s ≡ true → number 10 n s ≡ decimal_from n s
 unfolding number decimal_from all_digits
 number_is n [] h = refl
-number_is n (b ∷ bs) h = let k = if-both (is_digit b) (all_digits bs) h in rw (digit_value b k.0) (number_is (n * 10 + (b - ch "0")) bs k.1)
+number_is n (b ∷ bs) h = let k = and_parts (is_digit b) (all_digits bs) h in rw (digit_value b k.0) (number_is (n * 10 + (b - ch "0")) bs k.1)
 
 digits-none : (s : List ℕ) → digs s ≡ false → digits s ≡ none
 unfolding digits
@@ -217,7 +217,7 @@ digits-none s h = rw h
 
 digits-some : (s : List ℕ) → digs s ≡ true → zero_first s ≡ false → digits s ≡ some (number 10 0 s)
 unfolding digits
-digits-some s h z = rw (h, z, number_is 0 s (if-both (not (empty s)) (all_digits s) h).1)
+digits-some s h z = rw (h, z, number_is 0 s (and_parts (not (empty s)) (all_digits s) h).1)
 
 int-none : (t : List ℕ) → is_int t ≡ false → integer t ≡ none
 unfolding is_int integer
@@ -259,7 +259,7 @@ unsigned_is (b ∷ bs) h = if-one (matches (word (bytes "0")) (b ∷ bs)) _ (sym
 
     several : matches from_one (b ∷ bs) ≡ true → Unpadded (b ∷ bs)
     several m =
-        let k = if-both (in_any ((ch "1" ‥ ch "9") ∷ []) b) (matches (star digit) bs) (sym (some_then ((ch "1" ‥ ch "9") ∷ []) (star digit) b bs) ∙ m) in
+        let k = and_parts (in_any ((ch "1" ‥ ch "9") ∷ []) b) (matches (star digit) bs) (sym (some_then ((ch "1" ‥ ch "9") ∷ []) (star digit) b bs) ∙ m) in
         let r = in-range (ch "1" ‥ ch "9") b (sym (one-range (ch "1" ‥ ch "9") b) ∙ k.0) in
         (digs-on b bs (inside (ch "0" ‥ ch "9") b (omega arith) r.1) (sym (star-is bs) ∙ k.1), zero-not bs (ne_eqb b 48 (λ e. omega arith)))
 
@@ -293,11 +293,7 @@ int-some (b ∷ bs) h f = go (eqb b (ch "-")) (eqb b (ch "+")) refl refl (sym (j
 each : (P : List ℕ → Type 0) (l : List (List ℕ)) → All P l → (t : List ℕ) → one_of t l ≡ true → P t
 unfolding one_of
 each P [] h t e = absurd (true≢false (sym e))
-each P (x ∷ l) h t e = go (same t x) refl e (λ q. each P l h.1 t q)
-  where
-    go : (s : Bool) → same t x ≡ s → s || one_of t l ≡ true → (one_of t l ≡ true → P t) → P t
-    go true e q ih = subst P (sym (same-eq t x e)) h.0
-    go false e q ih = ih q
+each P (x ∷ l) h t e = ⊎_elim (λ q. rw (same-eq t x q) h.0) (λ q. each P l h.1 t q) (or_cases (same t x) (one_of t l) e)
 
 -- no text is of two rows
 null-no-int : (t : List ℕ) → one_of t nulls ≡ true → integer t ≡ none
@@ -318,7 +314,7 @@ unfolding scalar_of int_or
 int-reads t z e = rw (not-one nulls (null-no-int t), not-one trues (λ h. (true-no-int t h).0), not-one falses (λ h. (false-no-int t h).0), e)
   where
     not-one : (l : List (List ℕ)) → (one_of t l ≡ true → integer t ≡ none) → one_of t l ≡ false
-    not-one l f = ⊎_elim (λ h. absurd (none-ne-some z (sym (f h) ∙ e))) (λ h. h) (test (one_of t l))
+    not-one l f = ⊎_elim (λ h. absurd (none-ne-some z (sym (f h) ∙ e))) (λ h. h) (cases_Bool (one_of t l))
 
 -- the reader resolves a text as the core schema does, where document 01 keeps it
 pub resolves : {t : List ℕ} {r : Rep} (d : Core t r) → KeptCore d → (y : Yaml) → as_yaml r ≡ some y → scalar_of t ≡ y
@@ -335,8 +331,8 @@ resolves (to_octal h) k y e = absurd k
 resolves (to_hex h) k y e = absurd k
 resolves (to_float g h) k y e = absurd (none-ne-some y e)
 resolves (to_str {t = t} h) k y e =
-    let a = neither _ _ (sym (matches-or null_text (true_text ∣ false_text ∣ decimal_text ∣ octal_text ∣ hex_text ∣ float_text) t) ∙ is_false _ h) in
-    let b = neither _ _ (sym (matches-or true_text (false_text ∣ decimal_text ∣ octal_text ∣ hex_text ∣ float_text) t) ∙ a.1) in
-    let c = neither _ _ (sym (matches-or false_text (decimal_text ∣ octal_text ∣ hex_text ∣ float_text) t) ∙ b.1) in
-    let d = neither _ _ (sym (matches-or decimal_text (octal_text ∣ hex_text ∣ float_text) t) ∙ c.1) in
+    let a = or_parts _ _ (sym (matches-or null_text (true_text ∣ false_text ∣ decimal_text ∣ octal_text ∣ hex_text ∣ float_text) t) ∙ is_false _ h) in
+    let b = or_parts _ _ (sym (matches-or true_text (false_text ∣ decimal_text ∣ octal_text ∣ hex_text ∣ float_text) t) ∙ a.1) in
+    let c = or_parts _ _ (sym (matches-or false_text (decimal_text ∣ octal_text ∣ hex_text ∣ float_text) t) ∙ b.1) in
+    let d = or_parts _ _ (sym (matches-or decimal_text (octal_text ∣ hex_text ∣ float_text) t) ∙ c.1) in
     rw (sym (null_is t) ∙ a.0, sym (true-is t) ∙ b.0, sym (false-is t) ∙ c.0, int-none t (sym (int_is t) ∙ d.0)) (some-eq e)

@@ -1,6 +1,7 @@
 -- Texts that the grammar has and that document 01 keeps, with their trees; and texts that the grammar does not have. The terms of the first
 -- are written by compare/grammar. Assumes nothing.
-use Rattle.std.proofs.Common.{◌≡◌, refl, subst, ℕ, arith, List, [], ◌∷◌, Bool, true, false, not, T, take, drop, pos, negsuc}
+use Rattle.std.proofs.Common.{◌≡◌, refl, ℕ, arith, List, [], ◌∷◌, Bool, true, false, not, T, take, drop, pos, negsuc}
+use Rattle.std.proofs.lemmas.Bool.{false≢true}
 use Rattle.std.proofs.Math.Option.{Option, some, none}
 use Rattle.refusal.specs.Base.{bytes}
 use Rattle.refusal.proofs.Open.{Base-open}
@@ -482,19 +483,16 @@ is_str (str t) = true
 is_str (seq rs) = false
 is_str (map ps) = false
 
-clash : false ≡ true → ⊥
-clash e = subst (λ (b : Bool). T (not b)) e tt
-
 -- a plain text that is a string matches no row of the table
 no_row : {t : List ℕ} {r : Rep} → Core t r → is_str r ≡ true → T (not (matches (null_text ∣ true_text ∣ false_text ∣ decimal_text ∣ octal_text ∣ hex_text ∣ float_text) t))
 unfolding is_str
-no_row (to_null h) e = absurd (clash e)
-no_row (to_true h) e = absurd (clash e)
-no_row (to_false h) e = absurd (clash e)
-no_row (to_decimal h) e = absurd (clash e)
-no_row (to_octal h) e = absurd (clash e)
-no_row (to_hex h) e = absurd (clash e)
-no_row (to_float g h) e = absurd (clash e)
+no_row (to_null h) e = absurd (false≢true e)
+no_row (to_true h) e = absurd (false≢true e)
+no_row (to_false h) e = absurd (false≢true e)
+no_row (to_decimal h) e = absurd (false≢true e)
+no_row (to_octal h) e = absurd (false≢true e)
+no_row (to_hex h) e = absurd (false≢true e)
+no_row (to_float g h) e = absurd (false≢true e)
 no_row (to_str h) e = h
 
 -- `1.5`, `0x1F` and `~` are no strings

@@ -5,6 +5,7 @@ use Rattle.refusal.specs.Base.{good, ◌>>=◌, ◌>>◌, ensure, maybe, bytes, 
 use Rattle.utf8.specs.White.{trim}
 use Rattle.item.specs.Tree.{many, keyed, Yaml, null, seq, dict, Items, end, ◌▸◌, ◌◂◌, Entries, done, pair, add, has_key, levels}
 use Rattle.item.proofs.Size.{size}
+use Rattle.item.proofs.Joined.{◌⋈◌, add-more, none_more}
 use Rattle.scalar.specs.Scalars.{key_text, scalar_of}
 use Rattle.scalar.specs.declared.Role.{Role}
 use Rattle.scalar.specs.declared.Role.TheVariants.{AsValue, AsKey}
@@ -20,7 +21,7 @@ use Rattle.yaml.specs.Flow as F
 use Rattle.yaml.specs.Kept.{KeptFlow, KeptItems, KeptPairs, KeptPair}
 use Rattle.yaml.proofs.Tests.{by-each}
 use Rattle.yaml.proofs.Trees.{held, some-eq, fresh, pair_held, scalar-levels, key-size}
-use Rattle.yaml.proofs.Grow.{◌⋈◌, add-more, none_more, Apart, apart-add, apart-done, ◌▸▸◌, snoc-more, no_more}
+use Rattle.yaml.proofs.Grow.{Apart, apart-add, apart-done, ◌▸▸◌, snoc-more, no_more}
 use Rattle.yaml.proofs.CoreLaws.{resolves}
 use Rattle.yaml.proofs.PlainReads.{first_plain, plain-all}
 use Rattle.yaml.proofs.FlowTurns.{Head, head_of, head-long, skip-none, skip-run, skip-not, follows-close, follows-comma, follows-colon, follows-key}

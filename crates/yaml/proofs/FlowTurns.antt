@@ -1,6 +1,7 @@
 -- Flow collections, turn by turn: how nodes begin, what follows them, and what the reader's loops do at a node, a pair, a comma and a close.
 -- Assumes nothing.
 use Rattle.std.proofs.Common.{◌≡◌, refl, sym, ap, ◌∙◌, subst, ℕ, zero, suc, ◌+◌, ◌≤◌, ◌<◌, arith, List, [], ◌∷◌, ◌++◌, append_assoc, Bool, true, false, ◌&&◌, ◌||◌, T, eqb, length, le-leb}
+use Rattle.std.proofs.lemmas.Bool.{or_parts}
 use Rattle.std.proofs.Math.Bool.{or-true}
 use Rattle.std.proofs.Math.Option.{Option, none, some}
 use Rattle.refusal.specs.Base.{good, ◌>>=◌, ◌>>◌, ensure, given, bytes}
@@ -13,13 +14,14 @@ use Rattle.scalar.specs.declared.Role.{Role}
 use Rattle.scalar.specs.declared.Role.TheVariants.{AsValue, AsKey}
 use Rattle.scalar.specs.Read.{Reader, charge, scalar, plain_text, ends_item, ends_colon, stops_plain, onto, plain, string, skip_spaces}
 use Rattle.flow.specs.Flow.{stuck, node, value, items, item_turn, entries, entry_turn, entry_value, behind_colon, fresh}
-use Rattle.flow.proofs.Sums.{weight, cost-scalar, IsScalar, scalar_of-scalar}
+use Rattle.scalar.proofs.Laws.{Flat, flat_scalar}
+use Rattle.flow.proofs.Sums.{weight, cost-scalar}
 use Rattle.yaml.specs.Characters.{among, spaces}
 use Rattle.yaml.specs.Scalars.{Context, flow_in, Plain}
 use Rattle.yaml.specs.Scalars as Sc
 use Rattle.yaml.specs.Represent.{Rep}
 use Rattle.yaml.specs.Flow.{Flow, f_plain, f_quoted, f_seq, f_map, Quoted, q_double, q_single, json_like}
-use Rattle.yaml.proofs.Tests.{neither, differs}
+use Rattle.yaml.proofs.Tests.{differs}
 use Rattle.yaml.proofs.Trees.{key-size}
 use Rattle.yaml.proofs.Grow.{add-some, snoc-some}
 use Rattle.yaml.proofs.PlainReads.{Plainly, Begins, begins, first_plain, first-begins, not-json, plain-run}
@@ -151,17 +153,17 @@ module _ (cap n : ℕ) where
   value-node zero in_flow role sum bs = refl
   value-node (suc l) in_flow role sum bs = refl
 
-  scalar-good : (role : Role) (sum : ℕ) (y : Yaml) (rest : List ℕ) → IsScalar cap n y → sum + weight role y ≤ cap
+  scalar-good : (role : Role) (sum : ℕ) (y : Yaml) (rest : List ℕ) → Flat y → sum + weight role y ≤ cap
       → scalar cap n role sum y rest ≡ good (y, sum + weight role y, rest)
   unfolding scalar charge ◌>>=◌
-  scalar-good role sum y rest s h = rw (cost-scalar cap n role y s, le-leb (sum + weight role y) cap h)
+  scalar-good role sum y rest s h = rw (cost-scalar role y s, le-leb (sum + weight role y) cap h)
 
   -- plain text, from where it stops
   pub plain-to : (l : ℕ) (in_flow : Bool) (role : Role) (sum b : ℕ) (t s u rest : List ℕ) (y : Yaml) → Plainly b → plain_text in_flow (b ∷ s) ≡ (u, rest) → trim u ≡ t
       → scalar_of t ≡ y → sum + weight role y ≤ cap → value cap n l in_flow role sum (b ∷ s) ≡ good (y, sum + weight role y, rest)
   plain-to l in_flow role sum b t s u rest y q p m e c =
       value-node l in_flow role sum (b ∷ s) ∙ unfold node plain in (rw (q.no_brace, q.no_bracket, q.no_double, q.no_single, q.no_tag, p, m, e)
-      (scalar-good role sum y rest (subst (IsScalar cap n) e (scalar_of-scalar cap n t)) c))
+      (scalar-good role sum y rest (subst Flat e (flat_scalar t)) c))
 
   plain-reads : (l : ℕ) (role : Role) (sum : ℕ) {t : List ℕ} (r : List ℕ) (y : Yaml) → Plain flow_in t → trim t ≡ t → scalar_of t ≡ y → sum + weight role y ≤ cap → Follows r
       → ReadsTo l role sum t r y
@@ -181,7 +183,7 @@ module _ (cap n : ℕ) where
 
   -- quoted text
   quoted-good : (role : Role) (sum : ℕ) (v rest : List ℕ) → sum + weight role (str v) ≤ cap → string cap n role sum (good (v, rest)) ≡ good (str v, sum + weight role (str v), rest)
-  unfolding string ◌>>=◌ IsScalar
+  unfolding string ◌>>=◌
   quoted-good role sum v rest h = scalar-good role sum (str v) rest tt h
 
   pub quoted-node : (c : Context) {s v : List ℕ} → Quoted s v → NodeTo c s (str v)
@@ -204,9 +206,9 @@ module _ (cap n : ℕ) where
   stuck-not : (b : ℕ) (bs : List ℕ) → stops_plain b bs ≡ false → stuck b bs ≡ false
   unfolding stuck stops_plain ends_item
   stuck-not b bs h =
-      let p = neither (eqb b 44 || eqb b 125 || eqb b 93) (eqb b 58 && ends_colon bs) h in
-      let q = neither (eqb b 44 || eqb b 125) (eqb b 93) p.0 in
-      rw ((neither (eqb b 44) (eqb b 125) q.0).1, p.1)
+      let p = or_parts (eqb b 44 || eqb b 125 || eqb b 93) (eqb b 58 && ends_colon bs) h in
+      let q = or_parts (eqb b 44 || eqb b 125) (eqb b 93) p.0 in
+      rw ((or_parts (eqb b 44) (eqb b 125) q.0).1, p.1)
 
   -- a turn at a node
   turn_at : (l u : ℕ) (got : Items) (sum b : ℕ) (t r left : List ℕ) (y : Yaml) → Begins b t → value cap n l true AsValue sum (b ∷ t ++ r) ≡ good (y, sum + size y, left)
@@ -284,7 +286,7 @@ module _ (cap n : ℕ) where
       at b bs ok q = ap (entry_value cap n (inner l) sum) (skip-not b bs ok.no_space) ∙ unfold entry_value in (rw (ok.no_comma, ok.no_end) q)
 
   null_is : (l sum : ℕ) (r : List ℕ) → (f : Ends r) → sum + 6 ≤ cap → entry_value cap n (inner l) sum (skip_spaces r) ≡ good (null, sum + 6, f.follows.byte ∷ f.follows.rest)
-  unfolding entry_value IsScalar stops_plain ends_item
+  unfolding entry_value stops_plain ends_item
   null_is l sum r f h =
       rw (
         f.follows.is,

@@ -1,39 +1,17 @@
 -- Entries and items that grow at their end: what has been read, and what is still to come. Assumes nothing.
 use Rattle.std.proofs.Common.{◌≡◌, refl, sym, ap, ◌∙◌, ℕ, List, false}
-use Rattle.std.proofs.lemmas.Bool.{false≢true}
+use Rattle.std.proofs.lemmas.Bool.{false≢true, or_parts}
 use Rattle.refusal.specs.Base.{same}
 use Rattle.item.specs.Tree.{Yaml, Items, end, ◌▸◌, ◌◂◌, no_item, Entries, done, pair, add, no_entry, has_key}
 use Rattle.item.proofs.Same.{same_refl, same-ne}
-use Rattle.yaml.proofs.Tests.{neither}
+use Rattle.item.proofs.Joined.{has-add}
 
 -- ---- entries
-
-unfoldable pub ◌⋈◌ : Entries → Entries → Entries
-done ⋈ es = es
-(pair k v gs) ⋈ es = pair k v (gs ⋈ es)
-
-infixr 30 ◌⋈◌
-pub add-more : (got : Entries) (k : List ℕ) (v : Yaml) (es : Entries) → (add got k v) ⋈ es ≡ got ⋈ (pair k v es)
-unfolding add ◌⋈◌
-add-more done k v es = refl
-add-more (pair j u gs) k v es = ap (λ (l : Entries). pair j u l) (add-more gs k v es)
-
-pub none_more : (got : Entries) → got ⋈ done ≡ got
-unfolding ◌⋈◌
-none_more done = refl
-none_more (pair k v es) = ap (λ (l : Entries). pair k v l) (none_more es)
 
 pub add-some : (got : Entries) (k : List ℕ) (v : Yaml) → no_entry (add got k v) ≡ false
 unfolding add no_entry
 add-some done k v = refl
 add-some (pair j u gs) k v = refl
-
-has-add : (got : Entries) (k j : List ℕ) (v : Yaml) → has_key j got ≡ false → same k j ≡ false → has_key j (add got k v) ≡ false
-unfolding has_key add
-has-add done k j v h s = rw s
-has-add (pair i u gs) k j v h s =
-    let p = neither (same i j) (has_key j gs) h in
-    rw p.0 (has-add gs k j v p.1 s)
 
 -- no key of the one is a key of the other
 abbrev pub Apart : Entries → Entries → Type 0
@@ -44,8 +22,8 @@ pub apart-add : (got : Entries) (k : List ℕ) (v : Yaml) (es : Entries) → has
 unfolding has_key
 apart-add got k v done h a = tt
 apart-add got k v (pair j u es) h a =
-    let p = neither (same j k) (has_key k es) h in
-    (has-add got k j v a.0 (same-ne k j (λ e. false≢true (sym p.0 ∙ ap (same j) e ∙ same_refl j))), apart-add got k v es p.1 a.1)
+    let p = or_parts (same j k) (has_key k es) h in
+    (has-add got k j v ∙ rw (a.0, same-ne k j (λ e. false≢true (sym p.0 ∙ ap (same j) e ∙ same_refl j))), apart-add got k v es p.1 a.1)
 
 pub apart-done : (es : Entries) → Apart done es
 unfolding has_key

@@ -1,6 +1,7 @@
 -- Literals of the grammar are read as YAML reads them (`ReadsLiteral`). Assumes nothing.
 use Rattle.std.specs.Prelude.{if◌then◌else◌}
 use Rattle.std.proofs.Common.{◌≡◌, refl, sym, ap, ◌∙◌, subst, ℕ, suc, ◌+◌, ◌-◌, ◌≤◌, ◌<◌, arith, List, [], ◌∷◌, ◌++◌, append_assoc, append-nil, Bool, true, false, ◌&&◌, not, T, eqb, ltb, length, drop, eqb-true, le-leb, lt-ltb, le-ltb}
+use Rattle.std.proofs.Math.Facts.{and_yes}
 use Rattle.std.proofs.lemmas.Bool.{lt-leb}
 use Rattle.refusal.specs.Base.{good, ◌>>=◌, ch, empty}
 use Rattle.item.specs.Tree as Tree
@@ -14,7 +15,7 @@ use Rattle.yaml.specs.Block.{Chomp, strip, clip, chomped, Blanks, l_none, l_empt
 use Rattle.yaml.specs.Block as B
 use Rattle.yaml.specs.Kept.{inner, KeptLast, KeptLiteral}
 use Rattle.yaml.proofs.Parts.{edge, next_body, lines_of, Below, strips, ReadsLiteral}
-use Rattle.yaml.proofs.Tests.{and-two, is_false, differs}
+use Rattle.yaml.proofs.Tests.{is_false, differs}
 
 -- ---- comments have no entries
 
@@ -193,8 +194,8 @@ ended-front (b ∷ v) d = e_more b (ended-front v d)
 ended-row : (t : List ℕ) → T (nb_chars t) → T (not (empty t)) → Ended t
 unfolding nb_chars empty
 ended-row [] h g = absurd g
-ended-row (b ∷ []) h g = e_one b (differs (λ c. nb_char c) b 10 (and-two (nb_char b) true h).0 refl)
-ended-row (b ∷ c ∷ t) h g = e_more b (ended-row (c ∷ t) (and-two (nb_char b) (nb_chars (c ∷ t)) h).1 tt)
+ended-row (b ∷ []) h g = e_one b (differs (λ c. nb_char c) b 10 (and_yes (nb_char b) true h).0 refl)
+ended-row (b ∷ c ∷ t) h g = e_more b (ended-row (c ∷ t) (and_yes (nb_char b) (nb_chars (c ∷ t)) h).1 tt)
 
 ended-lines : {m : ℕ} {xs : List Row} {v : List ℕ} {b : Break} → Lines m xs v b → Ended v
 ended-lines (l_last (l_text {v = v} t d h g e f)) = subst Ended (sym f) (ended-front v (ended-row t h g))

@@ -1,7 +1,9 @@
 -- Kept's conditions on the rows of block nodes hold of ordinary rows: `k: v`, `k:`, `k: |` and `- v`, with a comment or without. Assumes nothing.
-use Rattle.std.proofs.Common.{◌≡◌, refl, ℕ, List, [], ◌∷◌, ◌++◌, append_assoc, Bool, true, false, ◌||◌, not, T, eqb, ltb, ltb→lt}
+use Rattle.std.proofs.Common.{◌≡◌, refl, ℕ, arith, List, [], ◌∷◌, ◌++◌, append_assoc, Bool, true, false, ◌||◌, not, T, eqb, ltb, ltb→lt}
+use Rattle.std.proofs.Math.Facts.{and_yes, yes_and}
 use Rattle.refusal.specs.Base.{ch, bytes, empty}
 use Rattle.refusal.proofs.Open.{Base-open}
+use Rattle.utf8.proofs.TrimLaws.{end-behind}
 use Rattle.utf8.proofs.Open.{Utf8-open, White-open}
 use Rattle.utf8.specs.White.{trim_end}
 use Rattle.yaml.specs.Characters.{among, whites}
@@ -14,12 +16,11 @@ use Rattle.yaml.specs.Block.{Chomp, strip, clip, mark}
 use Rattle.yaml.specs.Kept.{starts, KeptFlow, KeyFound, NoKey, Cut}
 use Rattle.yaml.specs.Ordinary.{without, flow_without, no_quotes, no_inner_quotes, last, space, KeyText, k_plain, k_quoted, hash_behind_space, Quiet, q_plain, q_quoted, q_white, q_mark, q_join, RowText, r_flow, r_entry, r_key, r_literal, r_dash, r_item}
 use Rattle.yaml.proofs.Open.{Ordinary-open}
-use Rattle.yaml.proofs.Tests.{and-two}
 use Rattle.yaml.proofs.Plains.{is_plain_lem, All-open}
 use Rattle.yaml.proofs.NodeTexts.{node-trim, front_of}
-use Rattle.yaml.proofs.OrdinaryTrims.{end-front, end_low, trim_end_lem}
+use Rattle.yaml.proofs.OrdinaryTrims.{end-front, trim_end_lem}
 use Rattle.yaml.proofs.OrdinaryKeys.{key-found, key-starts}
-use Rattle.yaml.proofs.OrdinaryComments.{both, quiet-Cut}
+use Rattle.yaml.proofs.OrdinaryComments.{quiet-Cut}
 use Rattle.yaml.proofs.OrdinaryFlow.{flow-no-key, flow-quiet}
 
 -- ---- texts of rows
@@ -42,7 +43,7 @@ whole-end : (s : List ℕ) (c : ℕ) (v : List ℕ) → Quiet s → Whole (c ∷
 whole-end s c v q t h = record {
   quiet = q_join q t.quiet refl;
   some = not-empty s c v;
-  trimmed = end_low c (ltb→lt c 0x80 h) s v t.trimmed;
+  trimmed = end-behind c (λ l _. omega (arith, ltb→lt c 0x80 h)) v t.trimmed s;
 }
 
 whole-space : (x t : List ℕ) → T (whites x) → Whole t → Whole (ch " " ∷ x ++ t)
@@ -87,8 +88,8 @@ without_fewer : (t : List ℕ) → T (without (bytes "'\"[{") t) → T (without 
 unfolding without
 without_fewer [] h = tt
 without_fewer (b ∷ t) h =
-    let k = and-two (not (among b (bytes "'\"[{"))) (without (bytes "'\"[{") t) h in
-    both (not (among b (bytes "'\""))) (without (bytes "'\"") t) (fewer b k.0) (without_fewer t k.1)
+    let k = and_yes (not (among b (bytes "'\"[{"))) (without (bytes "'\"[{") t) h in
+    yes_and (not (among b (bytes "'\""))) (without (bytes "'\"") t) (fewer b k.0) (without_fewer t k.1)
 
 key-quiet : {k : List ℕ} → KeyText k → Quiet k
 key-quiet (k_plain {t = t} p h e) = q_plain p (without_fewer t h)

@@ -1,6 +1,7 @@
 -- Kept's condition on comments holds of ordinary texts: a comment behind a quiet text, and no more, is cut. Assumes nothing.
 use Rattle.std.specs.Prelude.{if◌then◌else◌}
 use Rattle.std.proofs.Common.{◌≡◌, refl, sym, ap, ◌∙◌, ◌⊎◌, inl, inr, ⊎_elim, ℕ, List, [], ◌∷◌, ◌++◌, append_assoc, Bool, true, false, ◌&&◌, not, T, eqb, eqb→eq}
+use Rattle.std.proofs.Math.Facts.{and_yes, yes_and}
 use Rattle.refusal.specs.Base.{bytes}
 use Rattle.utf8.specs.White.{trim_end}
 use Rattle.lines.specs.Lines.{after_plain, place_after, starts_comment, uncommented, strip_comment}
@@ -13,10 +14,10 @@ use Rattle.yaml.specs.Flow.{q_double, q_single}
 use Rattle.yaml.specs.Rows.{comment_line, tail}
 use Rattle.yaml.specs.Kept.{Cut}
 use Rattle.yaml.specs.Ordinary.{without, hash_behind_space, Quiet, q_plain, q_quoted, q_white, q_mark, q_join}
-use Rattle.yaml.proofs.Tests.{and-two, not-among}
+use Rattle.yaml.proofs.Tests.{not-among, by-each}
 use Rattle.yaml.proofs.PlainReads.{ns-no-space}
 use Rattle.yaml.proofs.OrdinaryTrims.{end-whites}
-use Rattle.yaml.proofs.OrdinaryKeys.{white-cases, not-of₁, each, char-ns, first-ns}
+use Rattle.yaml.proofs.OrdinaryKeys.{white-cases, not-of₁, char-ns, first-ns}
 
 -- ---- the places behind texts
 
@@ -78,15 +79,15 @@ module _ (c : Context) where
   unfolding without
   rest_from p_end h {p = p} o f = from-none p o
   rest_from (p_char {a = a} {b = b} {t = t} g s) h {p = p} o f =
-      let k = and-two (not (among b quotes)) (without quotes t) h in
+      let k = and_yes (not (among b quotes)) (without quotes t) h in
       let m = char-ns c a b t g in
       from_byte p P.Plain b t (char-quiet o a b f m.1) (outside-after o b ∙ after-ns b m.0 k.0) (rest_from s k.1 other (λ i. refl))
   rest_from (p_space {b = b} {t = t} s) h {p = p} o f =
       from_byte p Fresh 32 (b ∷ t) (no-hash o 32 refl) (outside-after o 32 ∙ (unfold after_plain in refl))
-      (rest_from s (and-two (not (among 32 quotes)) (without quotes (b ∷ t)) h).1 fresh (λ i. absurd i))
+      (rest_from s (and_yes (not (among 32 quotes)) (without quotes (b ∷ t)) h).1 fresh (λ i. absurd i))
   rest_from (p_tab {b = b} {t = t} s) h {p = p} o f =
       from_byte p P.Plain 9 (b ∷ t) (no-hash o 9 refl) (outside-after o 9 ∙ (unfold after_plain in refl))
-      (rest_from s (and-two (not (among 9 quotes)) (without quotes (b ∷ t)) h).1 other (λ i. refl))
+      (rest_from s (and_yes (not (among 9 quotes)) (without quotes (b ∷ t)) h).1 other (λ i. refl))
 
 -- ---- quoted texts
 
@@ -94,7 +95,7 @@ lead-double : {t v : List ℕ} → DoubleText t v → Leads Double P.Plain (t ++
 unfolding place_after starts_comment
 lead-double d_end = lead-byte Double P.Plain P.Plain 34 [] refl refl (λ r. refl)
 lead-double (d_char {b = b} {t = t} h d) =
-    let k = and-two (nb_char b && not (eqb b 34)) (not (eqb b 92)) h in
+    let k = and_yes (nb_char b && not (eqb b 34)) (not (eqb b 92)) h in
     lead-byte Double Double P.Plain b (t ++ (34 ∷ [])) refl (rw (not-of₁ (nb_char b) (eqb b 34) k.0, not-of₁ true (eqb b 92) k.1)) (lead-double d)
 lead-double (d_escaped {b = b} {t = t} x d) =
     lead-byte Double Hidden P.Plain 92 (b ∷ t ++ (34 ∷ [])) refl refl (lead-byte Hidden Double P.Plain b (t ++ (34 ∷ [])) refl refl (lead-double d))
@@ -112,7 +113,7 @@ whites-from : (x : List ℕ) → T (whites x) → {p : Place} → Outside p → 
 unfolding whites
 whites-from [] h {p = p} o = from-none p o
 whites-from (b ∷ x) h {p = p} o =
-    let k = and-two (white b) (whites x) h in
+    let k = and_yes (white b) (whites x) h in
     ⊎_elim
     (λ e. rw e (from_byte p Fresh 32 x (no-hash o 32 refl) (outside-after o 32 ∙ (unfold after_plain in refl)) (whites-from x k.1 fresh)))
     (λ e. rw e (from_byte p P.Plain 9 x (no-hash o 9 refl) (outside-after o 9 ∙ (unfold after_plain in refl)) (whites-from x k.1 other)))
@@ -123,13 +124,13 @@ marks = bytes "-:,[]{}|"
 
 mark-after : (b : ℕ) → T (among b marks) → (eqb b 35 ≡ false) × (after_plain b ≡ P.Plain)
 unfolding after_plain bytes
-mark-after = each (λ b. (eqb b 35 ≡ false) × (after_plain b ≡ P.Plain)) marks
+mark-after = by-each (λ b. (eqb b 35 ≡ false) × (after_plain b ≡ P.Plain)) marks
     ((refl, refl), ((refl, refl), ((refl, refl), ((refl, refl), ((refl, refl), ((refl, refl), ((refl, refl), ((refl, refl), tt))))))))
 
 quiet-from : {s : List ℕ} → Quiet s → {p : Place} → Outside p → From p s
 unfolding without
 quiet-from (q_plain {c = c} (plain {b = b} {t = t} g s) h) {p = p} o =
-    let k = and-two (not (among b quotes)) (without quotes t) h in
+    let k = and_yes (not (among b quotes)) (without quotes t) h in
     let m = first-ns c b t g in
     from_byte p P.Plain b t (no-hash o b m.1) (outside-after o b ∙ after-ns b m.0 k.0) (rest_from c s k.1 other (λ i. refl))
 quiet-from (q_quoted (q_double {t = t} d e)) {p = p} o =
@@ -149,14 +150,10 @@ white-outside : (a : ℕ) → T (white a) → Outside (after_plain a)
 unfolding after_plain
 white-outside a h = ⊎_elim (λ e. rw e fresh) (λ e. rw e other) (white-cases a h)
 
-pub both : (x y : Bool) → T x → T y → T (x && y)
-both true y h k = k
-both false y h k = absurd h
-
 -- a white byte stays
 white-stays : {p : Place} → Outside p → (b : ℕ) (w : List ℕ) → T (white b) → T (whites (uncommented (after_plain b) w)) → eqb b 35 ≡ false → T (whites (uncommented p (b ∷ w)))
 unfolding uncommented
-white-stays o b w h k e = rw (no-hash o b e, outside-after o b) (unfold whites in both (white b) (whites (uncommented (after_plain b) w)) h k)
+white-stays o b w h k e = rw (no-hash o b e, outside-after o b) (unfold whites in yes_and (white b) (whites (uncommented (after_plain b) w)) h k)
 
 -- behind the white byte a, white space stays, and a comment goes
 line-white : (a : ℕ) (w : List ℕ) → T (white a) → T (comment_line w) → T (hash_behind_space (a ∷ w)) → T (whites (uncommented (after_plain a) w))
@@ -167,13 +164,13 @@ line-white a (b ∷ w) h k n = go (eqb b 35) refl (unfold comment_line in k) (un
         → (T (white b) → T (comment_line w) → T (hash_behind_space (b ∷ w)) → T (whites (uncommented (after_plain b) w))) → T (whites (uncommented (after_plain a) (b ∷ w)))
     go true e k n ih = rw (eqb→eq a 32 (n)) (unfold uncommented starts_comment after_plain whites in rw e tt)
     go false e k n ih =
-        let m = and-two (white b) (comment_line w) (k) in
+        let m = and_yes (white b) (comment_line w) (k) in
         white-stays (white-outside a h) b w m.0 (ih m.0 m.1 (n)) e
 
 tail-white : {p : Place} → Outside p → (w : List ℕ) → T (tail w) → T (hash_behind_space w) → T (whites (uncommented p w))
 tail-white o [] h n = unfold uncommented whites in tt
 tail-white o (b ∷ w) h n =
-    let m = and-two (white b) (comment_line w) (unfold tail in h) in
+    let m = and_yes (white b) (comment_line w) (unfold tail in h) in
     white-stays o b w m.0 (line-white b w m.0 m.1 n) (⊎_elim (λ e. rw e) (λ e. rw e) (white-cases b m.0))
 
 pub quiet-Cut : {t : List ℕ} (w : List ℕ) → Quiet t → trim_end t ≡ t → T (tail w) → T (hash_behind_space w) → Cut t w

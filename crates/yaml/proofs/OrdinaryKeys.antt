@@ -1,6 +1,7 @@
 -- Kept's conditions on keys hold of ordinary texts: a plain or quoted text has no end of a key in it, and as a key it is found. Assumes nothing.
 use Rattle.std.specs.Prelude.{if◌then◌else◌}
 use Rattle.std.proofs.Common.{◌≡◌, refl, ap, ◌∙◌, ◌⊎◌, inl, inr, ⊎_elim, ℕ, suc, ◌+◌, ◌-◌, arith, List, [], ◌∷◌, ◌++◌, append_assoc, append-nil, Bool, true, false, ◌&&◌, ◌||◌, not, T, eqb, eqb→eq, length, length-append}
+use Rattle.std.proofs.Math.Facts.{and_yes, or_yes}
 use Rattle.std.proofs.Math.Bool.{and-false}
 use Rattle.std.proofs.Math.Option.{none, some}
 use Rattle.refusal.specs.Base.{ch, bytes}
@@ -10,50 +11,40 @@ use Rattle.yaml.specs.Scalars.{Context, flow_out, flow_in, plain_safe, safe_next
 use Rattle.yaml.specs.Flow.{Quoted, q_double, q_single}
 use Rattle.yaml.specs.Kept.{starts, KeyFound, NoKey}
 use Rattle.yaml.specs.Ordinary.{without, quoted_without, no_escaped_quote, LastOrSpace, last, space, KeyText, k_plain, k_quoted}
-use Rattle.yaml.proofs.Tests.{and-two, or-two, not-among}
+use Rattle.yaml.proofs.Tests.{not-among, by-each}
 use Rattle.yaml.proofs.PlainReads.{ns-no-space}
 
 -- ---- bytes
 
 pub white-cases : (b : ℕ) → T (white b) → (b ≡ 32) ⊎ (b ≡ 9)
-white-cases b h = ⊎_elim (λ g. inl (eqb→eq b 32 g)) (λ g. inr (eqb→eq b 9 g)) (or-two (eqb b 32) (eqb b 9) h)
+white-cases b h = ⊎_elim (λ g. inl (eqb→eq b 32 g)) (λ g. inr (eqb→eq b 9 g)) (or_yes (eqb b 32) (eqb b 9) h)
 
 pub not-of₁ : (a b : Bool) → T (a && not b) → b ≡ false
 not-of₁ true false h = refl
 not-of₁ true true h = absurd h
 not-of₁ false b h = absurd h
 
-abbrev All : (ℕ → Type 0) → List ℕ → Type 0
-All P [] = Unit {0}
-All P (x ∷ l) = P x × All P l
-
--- what holds of each of a list of bytes
-pub each : (P : ℕ → Type 0) (l : List ℕ) → All P l → (b : ℕ) → T (among b l) → P b
-unfolding among
-each P [] h b k = absurd k
-each P (x ∷ l) h b k = ⊎_elim (λ g. rw (eqb→eq b x g) h.0) (λ g. each P l h.1 b g) (or-two (eqb b x) (among b l) k)
-
 pub safe-ns : (c : Context) (b : ℕ) → T (plain_safe c b) → T (ns_char b)
 unfolding plain_safe
 safe-ns flow_out b h = h
-safe-ns flow_in b h = (and-two (ns_char b) (not (among b flow_indicators)) h).0
+safe-ns flow_in b h = (and_yes (ns_char b) (not (among b flow_indicators)) h).0
 
 pub char-ns : (c : Context) (a b : ℕ) (t : List ℕ) → T (plain_char c a b t) → T (ns_char b) × ((eqb b 35 ≡ false) ⊎ T (ns_char a))
 unfolding plain_char among bytes
 char-ns c a b t h = ⊎_elim
     (λ h. ⊎_elim
-    (λ h. let k = and-two (plain_safe c b) (not (among b (bytes ":#"))) h in (safe-ns c b k.0, inl (not-among b 35 (bytes ":#") k.1 tt)))
-    (λ h. let k = and-two (eqb b 35) (ns_char a) h in (rw (eqb→eq b 35 k.0) tt, inr k.1))
-    (or-two (plain_safe c b && not (among b (bytes ":#"))) (eqb b (ch "#") && ns_char a) h))
-    (λ h. let k = and-two (eqb b 58) (safe_next c t) h in (rw (eqb→eq b 58 k.0) tt, inl (rw (eqb→eq b 58 k.0))))
-    (or-two ((plain_safe c b && not (among b (bytes ":#"))) || (eqb b (ch "#") && ns_char a)) (eqb b (ch ":") && safe_next c t) h)
+    (λ h. let k = and_yes (plain_safe c b) (not (among b (bytes ":#"))) h in (safe-ns c b k.0, inl (not-among b 35 (bytes ":#") k.1 tt)))
+    (λ h. let k = and_yes (eqb b 35) (ns_char a) h in (rw (eqb→eq b 35 k.0) tt, inr k.1))
+    (or_yes (plain_safe c b && not (among b (bytes ":#"))) (eqb b (ch "#") && ns_char a) h))
+    (λ h. let k = and_yes (eqb b 58) (safe_next c t) h in (rw (eqb→eq b 58 k.0) tt, inl (rw (eqb→eq b 58 k.0))))
+    (or_yes ((plain_safe c b && not (among b (bytes ":#"))) || (eqb b (ch "#") && ns_char a)) (eqb b (ch ":") && safe_next c t) h)
 
 pub first-ns : (c : Context) (b : ℕ) (t : List ℕ) → T (plain_first c b t) → T (ns_char b) × (eqb b 35 ≡ false)
 unfolding plain_first among bytes
 first-ns c b t h = ⊎_elim
-    (λ h. let k = and-two (ns_char b) (not (among b indicators)) h in (k.0, not-among b 35 indicators k.1 tt))
-    (λ h. each (λ b. T (ns_char b) × (eqb b 35 ≡ false)) (bytes "?:-") ((tt, refl), ((tt, refl), ((tt, refl), tt))) b (and-two (among b (bytes "?:-")) (safe_next c t) h).0)
-    (or-two (ns_char b && not (among b indicators)) (among b (bytes "?:-") && safe_next c t) h)
+    (λ h. let k = and_yes (ns_char b) (not (among b indicators)) h in (k.0, not-among b 35 indicators k.1 tt))
+    (λ h. by-each (λ b. T (ns_char b) × (eqb b 35 ≡ false)) (bytes "?:-") ((tt, refl), ((tt, refl), ((tt, refl), tt))) b (and_yes (among b (bytes "?:-")) (safe_next c t) h).0)
+    (or_yes (ns_char b && not (among b indicators)) (among b (bytes "?:-") && safe_next c t) h)
 
 -- ---- colons in plain texts
 
@@ -65,19 +56,19 @@ module _ (c : Context) where
   first_inner : (b : ℕ) (t : List ℕ) → T (plain_first c b t) → Inner c b t
   unfolding plain_first among bytes
   first_inner b t h = ⊎_elim
-      (λ h. inl (not-among b 58 indicators (and-two (ns_char b) (not (among b indicators)) h).1 tt))
-      (λ h. inr (and-two (among b (bytes "?:-")) (safe_next c t) h).1)
-      (or-two (ns_char b && not (among b indicators)) (among b (bytes "?:-") && safe_next c t) h)
+      (λ h. inl (not-among b 58 indicators (and_yes (ns_char b) (not (among b indicators)) h).1 tt))
+      (λ h. inr (and_yes (among b (bytes "?:-")) (safe_next c t) h).1)
+      (or_yes (ns_char b && not (among b indicators)) (among b (bytes "?:-") && safe_next c t) h)
 
   char-inner : (a b : ℕ) (t : List ℕ) → T (plain_char c a b t) → Inner c b t
   unfolding plain_char among bytes
   char-inner a b t h = ⊎_elim
       (λ h. ⊎_elim
-      (λ h. inl (not-among b 58 (bytes ":#") (and-two (plain_safe c b) (not (among b (bytes ":#"))) h).1 tt))
-      (λ h. inl (rw (eqb→eq b 35 (and-two (eqb b 35) (ns_char a) h).0)))
-      (or-two (plain_safe c b && not (among b (bytes ":#"))) (eqb b (ch "#") && ns_char a) h))
-      (λ h. inr (and-two (eqb b 58) (safe_next c t) h).1)
-      (or-two ((plain_safe c b && not (among b (bytes ":#"))) || (eqb b (ch "#") && ns_char a)) (eqb b (ch ":") && safe_next c t) h)
+      (λ h. inl (not-among b 58 (bytes ":#") (and_yes (plain_safe c b) (not (among b (bytes ":#"))) h).1 tt))
+      (λ h. inl (rw (eqb→eq b 35 (and_yes (eqb b 35) (ns_char a) h).0)))
+      (or_yes (plain_safe c b && not (among b (bytes ":#"))) (eqb b (ch "#") && ns_char a) h))
+      (λ h. inr (and_yes (eqb b 58) (safe_next c t) h).1)
+      (or_yes ((plain_safe c b && not (among b (bytes ":#"))) || (eqb b (ch "#") && ns_char a)) (eqb b (ch ":") && safe_next c t) h)
 
   next-stays : (t r : List ℕ) → T (safe_next c t) → last_or_space (t ++ r) ≡ false
   unfolding safe_next last_or_space
@@ -143,7 +134,7 @@ module _ (d : ℕ) where
   pub pass-whites : (x : List ℕ) → T (whites x) → Passes 0 d 0 d x
   unfolding whites
   pass-whites [] h = pass-none 0 d
-  pass-whites (b ∷ x) h = let k = and-two (white b) (whites x) h in pass-white b x (white-cases b k.0) (pass-whites x k.1)
+  pass-whites (b ∷ x) h = let k = and_yes (white b) (whites x) h in pass-white b x (white-cases b k.0) (pass-whites x k.1)
 
 -- behind it and white space a colon is found
 pub pass-found : (s x u : List ℕ) → Passes 0 0 0 0 s → T (whites x) → LastOrSpace u → KeyFound (s ++ x) u
@@ -174,15 +165,15 @@ pass-rest : {c : Context} {a : ℕ} {t : List ℕ} → PlainRest c a t → T (wi
 unfolding without
 pass-rest p_end h = pass-none 0 0
 pass-rest {c} (p_char {a = a} {b = b} {t = t} g p) h =
-    let k = and-two (not (among b openers)) (without openers t) h in
+    let k = and_yes (not (among b openers)) (without openers t) h in
     pass-plain-byte c b t (char-inner c a b t g) k.0 (pass-rest p k.1)
-pass-rest {c} (p_space {b = b} {t = t} p) h = pass-white 0 32 (b ∷ t) (inl refl) (pass-rest p (and-two (not (among 32 openers)) (without openers (b ∷ t)) h).1)
-pass-rest {c} (p_tab {b = b} {t = t} p) h = pass-white 0 9 (b ∷ t) (inr refl) (pass-rest p (and-two (not (among 9 openers)) (without openers (b ∷ t)) h).1)
+pass-rest {c} (p_space {b = b} {t = t} p) h = pass-white 0 32 (b ∷ t) (inl refl) (pass-rest p (and_yes (not (among 32 openers)) (without openers (b ∷ t)) h).1)
+pass-rest {c} (p_tab {b = b} {t = t} p) h = pass-white 0 9 (b ∷ t) (inr refl) (pass-rest p (and_yes (not (among 9 openers)) (without openers (b ∷ t)) h).1)
 
 pass-plain : {c : Context} {t : List ℕ} → Plain c t → T (without openers t) → Passes 0 0 0 0 t
 unfolding without
 pass-plain {c} (plain {b = b} {t = t} g p) h =
-    let k = and-two (not (among b openers)) (without openers t) h in
+    let k = and_yes (not (among b openers)) (without openers t) h in
     pass-plain-byte c b t (first_inner c b t g) k.0 (pass-rest p k.1)
 
 pub plain-key-found : {c : Context} {t u : List ℕ} (x : List ℕ) → Plain c t → T (without (bytes "'\"[{") t) → T (whites x) → LastOrSpace u → KeyFound (t ++ x) u
@@ -200,7 +191,7 @@ module _ (d : ℕ) where
   unfolding without bytes among
   pass-double [] h = unfold qualifies quote_after depth_after in pass-byte 34 d 0 d 0 d 34 [] (λ r. refl) refl refl (pass-none 0 d)
   pass-double (b ∷ t) h =
-      let k = and-two (not (among b (bytes "\""))) (without (bytes "\"") t) h in
+      let k = and_yes (not (among b (bytes "\""))) (without (bytes "\"") t) h in
       double-byte b (t ++ (34 ∷ [])) (not-among b 34 (bytes "\"") k.0 tt) (pass-double t k.1)
 
   single-byte : (b : ℕ) (t : List ℕ) → eqb b 39 ≡ false → Passes 39 d 0 d t → Passes 39 d 0 d (b ∷ t)

@@ -1,11 +1,12 @@
 -- Plain text: how it begins, and how far the reader runs in it. Assumes nothing.
 use Rattle.std.proofs.Common.{◌≡◌, refl, ap, ⊎_elim, ℕ, zero, suc, List, [], ◌∷◌, ◌++◌, true, false, ◌&&◌, ◌||◌, not, T, eqb, eqb→eq, replicate}
+use Rattle.std.proofs.Math.Facts.{and_yes, or_yes}
 use Rattle.refusal.specs.Base.{ch, bytes}
 use Rattle.scalar.specs.Read.{plain_text, onto, ends_item, ends_colon, stops_plain}
 use Rattle.yaml.specs.Characters.{ns_char, among, indicators, flow_indicators}
 use Rattle.yaml.specs.Scalars.{Context, flow_in, plain_safe, safe_next, plain_first, plain_char, PlainRest, p_end, p_char, p_space, p_tab, Plain, plain}
 use Rattle.yaml.specs.Flow.{json_like}
-use Rattle.yaml.proofs.Tests.{and-two, or-two, All, by-each, differs, not-among}
+use Rattle.yaml.proofs.Tests.{All, by-each, differs, not-among}
 
 -- ---- single bytes
 
@@ -15,7 +16,7 @@ ns-no-space b h = differs (λ c. ns_char c) b 32 h refl
 safe-ends : (b : ℕ) → T (plain_safe flow_in b) → (ends_item b ≡ false) × (eqb b 32 ≡ false)
 unfolding plain_safe ends_item among bytes
 safe-ends b h =
-    let k = and-two (ns_char b) (not (among b flow_indicators)) h in
+    let k = and_yes (ns_char b) (not (among b flow_indicators)) h in
     (rw (not-among b 44 flow_indicators k.1 tt, not-among b 125 flow_indicators k.1 tt, not-among b 93 flow_indicators k.1 tt), ns-no-space b k.0)
 
 next-safe : (t r : List ℕ) → T (safe_next flow_in t) → ends_colon (t ++ r) ≡ false
@@ -59,9 +60,9 @@ pub by_first : (P : ℕ → Type 0) (c : Context) (b : ℕ) (t : List ℕ) → T
     → (T (ns_char b) → ((x : ℕ) → T (among x indicators) → eqb b x ≡ false) → P b) → (T (safe_next c t) → All P (bytes "?:-")) → P b
 unfolding plain_first
 by_first P c b t h f g = ⊎_elim
-    (λ h. let k = and-two (ns_char b) (not (among b indicators)) h in f k.0 (λ x m. not-among b x indicators k.1 m))
-    (λ h. let k = and-two (among b (bytes "?:-")) (safe_next c t) h in by-each P (bytes "?:-") (g k.1) b k.0)
-    (or-two (ns_char b && not (among b indicators)) (among b (bytes "?:-") && safe_next c t) h)
+    (λ h. let k = and_yes (ns_char b) (not (among b indicators)) h in f k.0 (λ x m. not-among b x indicators k.1 m))
+    (λ h. let k = and_yes (among b (bytes "?:-")) (safe_next c t) h in by-each P (bytes "?:-") (g k.1) b k.0)
+    (or_yes (ns_char b && not (among b indicators)) (among b (bytes "?:-") && safe_next c t) h)
 
 pub first_plain : (c : Context) (b : ℕ) (t : List ℕ) → T (plain_first c b t) → Plainly b
 unfolding among bytes
@@ -87,12 +88,12 @@ unfolding plain_char stops_plain among bytes
 char-goes a b t r h =
     ⊎_elim
     (λ h. ⊎_elim
-    (λ h. let k = and-two (plain_safe flow_in b) (not (among b (bytes ":#"))) h in
+    (λ h. let k = and_yes (plain_safe flow_in b) (not (among b (bytes ":#"))) h in
     rw ((safe-ends b k.0).0, not-among b 58 (bytes ":#") k.1 tt))
-    (λ h. let k = and-two (eqb b 35) _ h in rw (eqb→eq b 35 k.0) (unfold ends_item in refl))
-    (or-two (plain_safe flow_in b && not (among b (bytes ":#"))) (eqb b (ch "#") && ns_char a) h))
-    (λ h. let k = and-two (eqb b 58) (safe_next flow_in t) h in rw (eqb→eq b 58 k.0, next-safe t r k.1) (unfold ends_item in refl))
-    (or-two ((plain_safe flow_in b && not (among b (bytes ":#"))) || (eqb b (ch "#") && ns_char a)) (eqb b (ch ":") && safe_next flow_in t) h)
+    (λ h. let k = and_yes (eqb b 35) _ h in rw (eqb→eq b 35 k.0) (unfold ends_item in refl))
+    (or_yes (plain_safe flow_in b && not (among b (bytes ":#"))) (eqb b (ch "#") && ns_char a) h))
+    (λ h. let k = and_yes (eqb b 58) (safe_next flow_in t) h in rw (eqb→eq b 58 k.0, next-safe t r k.1) (unfold ends_item in refl))
+    (or_yes ((plain_safe flow_in b && not (among b (bytes ":#"))) || (eqb b (ch "#") && ns_char a)) (eqb b (ch ":") && safe_next flow_in t) h)
 
 spaces-run : (k b : ℕ) (bs : List ℕ) → stops_plain b bs ≡ true → plain_text true (replicate k 32 ++ (b ∷ bs)) ≡ (replicate k 32, b ∷ bs)
 unfolding plain_text stops_plain ends_item

@@ -1,11 +1,11 @@
 -- Plain texts by a test that computes, and one name for all definitions that a derivation of a given text unfolds. Assumes nothing.
 use Rattle.std.specs.Prelude.{if◌then◌else◌}
 use Rattle.std.proofs.Common.{◌≡◌, refl, sym, subst, ℕ, List, [], ◌∷◌, Bool, true, false, ◌&&◌, ◌||◌, not, T, eqb, eqb-true}
+use Rattle.std.proofs.Math.Facts.{and_yes}
 use Rattle.refusal.specs.Base.{ch, empty}
 use Rattle.refusal.proofs.Open.{Base-open}
 use Rattle.yaml.specs.Scalars.{Context, plain_first, plain_char, PlainRest, p_end, p_char, p_space, p_tab, Plain, plain}
 use Rattle.yaml.proofs.Open.{Scalars-open as Texts-open, Characters-open, Represent-open, Core-open, Flow-open, Rows-open, Block-open, Kept-open}
-use Rattle.yaml.proofs.Tests.{and-two}
 use Rattle.utf8.proofs.Open.{Utf8-open, Points-open, White-open}
 use Rattle.item.proofs.Open.{Tree-open}
 use Rattle.number.proofs.Open.{Integers-open}
@@ -41,14 +41,14 @@ module _ (c : Context) where
       go : (x y : Bool) → eqb b (ch " ") ≡ x → eqb b (ch "\t") ≡ y
           → T (if x || y then not (empty t) && plain_rest c b t else plain_char c a b t && plain_rest c b t)
           → (T (plain_rest c b t) → PlainRest c b t) → PlainRest c a (b ∷ t)
-      go true y e f h ih = let k = and-two (not (empty t)) (plain_rest c b t) h in behind-space a b t (eqb-true b _ e) k.0 (ih k.1)
-      go false true e f h ih = let k = and-two (not (empty t)) (plain_rest c b t) h in behind-tab a b t (eqb-true b _ f) k.0 (ih k.1)
-      go false false e f h ih = let k = and-two (plain_char c a b t) (plain_rest c b t) h in p_char k.0 (ih k.1)
+      go true y e f h ih = let k = and_yes (not (empty t)) (plain_rest c b t) h in behind-space a b t (eqb-true b _ e) k.0 (ih k.1)
+      go false true e f h ih = let k = and_yes (not (empty t)) (plain_rest c b t) h in behind-tab a b t (eqb-true b _ f) k.0 (ih k.1)
+      go false false e f h ih = let k = and_yes (plain_char c a b t) (plain_rest c b t) h in p_char k.0 (ih k.1)
 
   pub is_plain_lem : (t : List ℕ) → T (is_plain c t) → Plain c t
   unfolding is_plain
   is_plain_lem [] h = absurd h
-  is_plain_lem (b ∷ t) h = let k = and-two (plain_first c b t) (plain_rest c b t) h in plain k.0 (rest-is b t k.1)
+  is_plain_lem (b ∷ t) h = let k = and_yes (plain_first c b t) (plain_rest c b t) h in plain k.0 (rest-is b t k.1)
 
 unfoldable pub All-open : Unit {0}
 unfolding Base-open Utf8-open Points-open White-open Tree-open Integers-open Scalars-open Key-open Lines-open Characters-open Represent-open Core-open Texts-open Flow-open Rows-open Block-open Kept-open plain_rest is_plain

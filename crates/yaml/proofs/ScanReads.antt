@@ -1,21 +1,22 @@
 -- Section 1 of document 01 finds the entries of the rows (`Scans`). Assumes nothing.
 use Rattle.std.specs.Prelude.{if◌then◌else◌}
-use Rattle.std.proofs.Common.{◌≡◌, refl, sym, ap, ◌∙◌, ⊎_elim, ℕ, zero, suc, ◌+◌, ◌-◌, ◌≤◌, ◌<◌, arith, List, [], ◌∷◌, ◌++◌, append_assoc, Bool, true, false, ◌&&◌, not, true≢false, T, eqb, ltb, length, drop, length-drop, eqb-true, ne_eqb, lt-ltb, le-ltb}
-use Rattle.std.proofs.lemmas.Bool.{lt-leb}
+use Rattle.std.proofs.Common.{◌≡◌, refl, sym, ap, ◌∙◌, ⊎_elim, ℕ, zero, suc, ◌+◌, ◌-◌, ◌≤◌, ◌<◌, arith, List, [], ◌∷◌, ◌++◌, append_assoc, append-nil, Bool, true, false, ◌&&◌, not, true≢false, T, eqb, ltb, length, drop, length-drop, eqb-true, lt-ltb, le-ltb}
+use Rattle.std.proofs.Math.Facts.{and_yes, or_yes}
+use Rattle.std.proofs.lemmas.Bool.{or_parts}
 use Rattle.std.proofs.Math.Bool.{and-false}
 use Rattle.std.proofs.Math.Option.{Option, none, some, none-ne-some}
 use Rattle.refusal.specs.Base.{maybe, ch, bytes, same, empty, ends_with}
 use Rattle.item.specs.Tree.{many, keyed}
 use Rattle.utf8.specs.Utf8.{within}
-use Rattle.utf8.specs.White.{white1, white2, in2000, white3, white_at, white_len, leading_from, leading, trim_start, all_white, trim_end, trim}
-use Rattle.utf8.proofs.Laws.{leading_le, end-le, end_empty}
+use Rattle.utf8.specs.White.{white1, white_at, white_len, leading_from, leading, trim_start, all_white, trim_end, trim}
+use Rattle.utf8.proofs.Laws.{leading_le, end-le, end_empty, first-none, white-apart}
 use Rattle.lines.specs.Lines.{line, Event, entry, indent_of, tabbed, starts_comment, uncommented, strip_comment, significant, is_marker, opens_literal, events_of, literal_of, literal_after, blanks_before, body_of, scan}
-use Rattle.lines.proofs.Laws.{tab-none, tab-here, tab-on}
+use Rattle.lines.proofs.Laws.{tab-none, tab-here, tab-on, space-white, space-all}
 use Rattle.lines.specs.declared.Literal.TheVariants.{Closed, Under}
 use Rattle.yaml.specs.Characters.{among, white, whites, nb_chars, spaces}
 use Rattle.yaml.specs.Scalars.{Context, Plain, plain}
-use Rattle.yaml.proofs.Tests.{is_true, is_false, and-two, or-two, neither}
-use Rattle.yaml.proofs.Whites.{white-byte}
+use Rattle.yaml.proofs.Tests.{is_true, is_false}
+use Rattle.yaml.proofs.Whites.{white-low, white-one}
 use Rattle.yaml.specs.Represent.{Graph, Rep}
 use Rattle.yaml.specs.Flow.{Quoted, q_double, q_single, Flow, f_plain, f_quoted, f_seq, f_map}
 use Rattle.yaml.specs.Rows.{Break, Row, node, note, body, blank, raw, comment_line, tail, Comments, c_end, c_more}
@@ -32,61 +33,27 @@ use Rattle.yaml.proofs.LiteralReads.{indent-back, edge-all}
 pub data Solid : List ℕ → Type 0 where
   solid : {b : ℕ} {s : List ℕ} → white_at b s ≡ none → Solid (b ∷ s)
 
--- a first byte that no white space begins with
-byte-none : (b : ℕ) (s : List ℕ) → white1 b ≡ false → eqb b 0xc2 ≡ false → eqb b 0xe1 ≡ false → eqb b 0xe2 ≡ false → eqb b 0xe3 ≡ false → white_at b s ≡ none
-unfolding white_at white2 white3
-byte-none b [] p q x y z = rw p
-byte-none b (c ∷ []) p q x y z = rw (p, q)
-byte-none b (c ∷ d ∷ s) p q x y z = rw (p, q, x, y, z)
-
 -- white space goes on with bytes from 80 on
 pub data Low : List ℕ → Type 0 where
   low_end : Low []
   low_byte : {b : ℕ} {s : List ℕ} → b < 0x80 → Low (b ∷ s)
 
-low-two : (a b : ℕ) → b < 0x80 → white2 a b ≡ false
-unfolding white2
-low-two a b h = rw (ne_eqb b 0x85 (λ e. omega arith), ne_eqb b 0xa0 (λ e. omega arith), and-false (eqb a 0xc2))
-
-low_second : (a b c : ℕ) → b < 0x80 → white3 a b c ≡ false
-unfolding white3
-low_second a b c h =
-    rw (ne_eqb b 0x9a (λ e. omega arith), ne_eqb b 0x80 (λ e. omega arith), ne_eqb b 0x81 (λ e. omega arith), and-false (eqb a 0xe1), and-false (eqb a 0xe2), and-false (eqb a 0xe3))
-
-low-third : (a b c : ℕ) → c < 0x80 → white3 a b c ≡ false
-unfolding white3 in2000 within
-low-third a b c h =
-    simp (ne_eqb c 0x80 (λ e. omega arith), ne_eqb c 0x9f (λ e. omega arith), ne_eqb c 0xaf (λ e. omega arith), lt-leb 0x80 c (omega arith), lt-leb 0xa8 c (omega arith), and-false)
-
-first-none : (x : Bool) (k : ℕ) {o : Option ℕ} → (if x then some k else o) ≡ none → (x ≡ false) × (o ≡ none)
-first-none true k e = absurd (none-ne-some k (sym e))
-first-none false k e = (refl, e)
-
-white_low : (a : ℕ) (s : List ℕ) {u : List ℕ} → Low u → white_at a s ≡ none → white_at a (s ++ u) ≡ none
-unfolding white_at
-white_low a [] low_end e = e
-white_low a [] (low_byte {b = b} {s = []} h) e = rw ((first-none (white1 a) 0 e).0, low-two a b h)
-white_low a [] (low_byte {b = b} {s = c ∷ s} h) e = rw ((first-none (white1 a) 0 e).0, low-two a b h, low_second a b c h)
-white_low a (b ∷ []) low_end e = e
-white_low a (b ∷ []) (low_byte {b = c} h) e =
-    let k = first-none (white1 a) 0 e in rw (k.0, (first-none (white2 a b) 1 k.1).0, low-third a b c h)
-white_low a (b ∷ c ∷ s) l e = e
+white_low : (a : ℕ) (s : List ℕ) {u : List ℕ} → Low u → white_at a (s ++ u) ≡ white_at a s
+white_low a s low_end = ap (white_at a) (append-nil s)
+white_low a s (low_byte {b = b} {s = u} h) = white-apart b (λ l _. omega arith) a s u
 
 solid-on : {t u : List ℕ} → Solid t → Low u → Solid (t ++ u)
-solid-on (solid {b = b} {s = s} e) l = solid (white_low b s l e)
-
-low-white : (b : ℕ) (s : List ℕ) → T (white b) → Low (b ∷ s)
-low-white b s = white-byte (λ b. Low (b ∷ s)) (low_byte {b = 32} (omega arith)) (low_byte {b = 9} (omega arith)) b
+solid-on (solid {b = b} {s = s} e) l = solid (white_low b s l ∙ e)
 
 low-whites : (x : List ℕ) → T (whites x) → Low x
 unfolding whites
 low-whites [] h = low_end
-low-whites (b ∷ x) h = low-white b x (and-two (white b) (whites x) h).0
+low-whites (b ∷ x) h = low_byte (white-low b (and_yes (white b) (whites x) h).0)
 
 low-tail : (w : List ℕ) → T (tail w) → Low w
 unfolding tail
 low-tail [] h = low_end
-low-tail (b ∷ w) h = low-white b w (and-two (white b) (comment_line w) h).0
+low-tail (b ∷ w) h = low_byte (white-low b (and_yes (white b) (comment_line w) h).0)
 
 -- a text that is trimmed at its start begins with none
 trim-solid : (b : ℕ) (s : List ℕ) → trim (b ∷ s) ≡ b ∷ s → Solid (b ∷ s)
@@ -108,13 +75,8 @@ solid-indent : {t : List ℕ} → Solid t → indent_of t ≡ 0
 unfolding indent_of
 solid-indent (solid {b = b} {s = s} e) = go (eqb b 32) refl
   where
-    space : (s : List ℕ) → white_at 32 s ≡ some 0
-    space [] = unfold white_at white1 within in refl
-    space (a ∷ []) = unfold white_at white1 within in refl
-    space (a ∷ c ∷ s) = unfold white_at white1 within in refl
-
     go : (x : Bool) → eqb b 32 ≡ x → (if x then suc (indent_of s) else 0) ≡ 0
-    go true q = absurd (none-ne-some 0 (sym e ∙ ap (λ (c : ℕ). white_at c s) (eqb-true b 32 q) ∙ space s))
+    go true q = absurd (none-ne-some 0 (sym e ∙ ap (λ (c : ℕ). white_at c s) (eqb-true b 32 q) ∙ white-one 32 s tt))
     go false q = refl
 
 solid-tab : {t : List ℕ} → Solid t → tabbed t ≡ false
@@ -127,18 +89,6 @@ solid-white (solid e) = rw e
 solid-empty : {t : List ℕ} → Solid t → empty t ≡ false
 unfolding empty
 solid-empty (solid e) = refl
-
-space-white : (s : List ℕ) → white_len (ch " " ∷ s) ≡ 1
-unfolding white_len white_at maybe white1 within
-space-white [] = refl
-space-white (b ∷ []) = refl
-space-white (b ∷ c ∷ s) = refl
-
-space-all : (s : List ℕ) → all_white (ch " " ∷ s) ≡ all_white s
-unfolding all_white trim_start leading leading_from white_at maybe white1 within
-space-all [] = refl
-space-all (b ∷ []) = refl
-space-all (b ∷ c ∷ s) = refl
 
 space-tab : (s : List ℕ) → tabbed (ch " " ∷ s) ≡ tabbed s
 space-tab s = tab-on (32 ∷ s) 1 (space-white s) (λ e. omega arith) (λ e. omega arith)
@@ -184,9 +134,9 @@ note-strips (b ∷ s) h g = go (eqb b 32) (eqb b 35) refl refl h (note-strips s)
     go : (x y : Bool) → eqb b 32 ≡ x → eqb b 35 ≡ y → T (if y then nb_chars s else white b && comment_line s)
         → (T (comment_line s) → tabbed s ≡ false → strip_comment (inner s) ≡ []) → strip_comment (drop (if x then suc (indent_of s) else 0) (b ∷ s)) ≡ []
     go true true e f k ih = absurd (let p : b ≡ 32 = eqb-true b 32 e in let q : b ≡ 35 = eqb-true b 35 f in omega arith)
-    go true false e f k ih = ih (and-two (white b) (comment_line s) k).1 (sym (space-tab s) ∙ ap (λ (c : ℕ). tabbed (c ∷ s)) (sym (eqb-true b 32 e)) ∙ g)
+    go true false e f k ih = ih (and_yes (white b) (comment_line s) k).1 (sym (space-tab s) ∙ ap (λ (c : ℕ). tabbed (c ∷ s)) (sym (eqb-true b 32 e)) ∙ g)
     go false true e f k ih = rw f
-    go false false e f k ih = absurd (⊎_elim (λ q. true≢false (sym (is_true (eqb b 32) q) ∙ e)) (λ q. tab (eqb-true b 9 (is_true (eqb b 9) q))) (or-two (eqb b 32) (eqb b 9) (and-two (white b) (comment_line s) k).0))
+    go false false e f k ih = absurd (⊎_elim (λ q. true≢false (sym (is_true (eqb b 32) q) ∙ e)) (λ q. tab (eqb-true b 9 (is_true (eqb b 9) q))) (or_yes (eqb b 32) (eqb b 9) (and_yes (white b) (comment_line s) k).0))
 
 note-none : (s : List ℕ) → T (comment_line s) → tabbed s ≡ false → significant s ≡ []
 unfolding significant trim_end
@@ -261,9 +211,9 @@ dashed (o_node h s m t d) = (t, d)
 same-without : (c : ℕ) (s u p : List ℕ) → among c p ≡ false → same (s ++ (c ∷ u)) p ≡ false
 unfolding among same
 same-without c [] u [] h = refl
-same-without c [] u (b ∷ p) h = rw (neither (eqb c b) (among c p) h).0
+same-without c [] u (b ∷ p) h = rw (or_parts (eqb c b) (among c p) h).0
 same-without c (a ∷ s) u [] h = refl
-same-without c (a ∷ s) u (b ∷ p) h = rw (same-without c s u p (neither (eqb c b) (among c p) h).1, and-false (eqb a b))
+same-without c (a ∷ s) u (b ∷ p) h = rw (same-without c s u p (or_parts (eqb c b) (among c p) h).1, and-false (eqb a b))
 
 colon-mark : (s u : List ℕ) → is_marker (s ++ (ch ":" ∷ u)) ≡ false
 unfolding is_marker among bytes
@@ -280,11 +230,11 @@ dash-only = refl
 -- ---- nodes begin with no white space
 
 dash-solid : (t : List ℕ) → Solid (ch "-" ∷ t)
-dash-solid t = solid (byte-none 45 t (unfold white1 within in refl) refl refl refl refl)
+dash-solid t = solid (first-none 45 t (omega arith) (omega arith))
 
 quoted-solid : {s v : List ℕ} → Quoted s v → Solid s
-quoted-solid (q_double {t = t} d e) = rw e (solid (byte-none 34 (t ++ (34 ∷ [])) (unfold white1 within in refl) refl refl refl refl))
-quoted-solid (q_single {t = t} d e) = rw e (solid (byte-none 39 (t ++ (39 ∷ [])) (unfold white1 within in refl) refl refl refl refl))
+quoted-solid (q_double {t = t} d e) = rw e (solid (first-none 34 (t ++ (34 ∷ [])) (omega arith) (omega arith)))
+quoted-solid (q_single {t = t} d e) = rw e (solid (first-none 39 (t ++ (39 ∷ [])) (omega arith) (omega arith)))
 
 plain-solid : {c : Context} {t : List ℕ} → Plain c t → trim t ≡ t → Solid t
 plain-solid (plain {b = b} {t = t} h p) e = trim-solid b t e
@@ -293,8 +243,8 @@ flow-solid : {c : Context} {t : List ℕ} {r : Rep} (d : Flow c t r) → KeptFlo
 unfolding KeptFlow
 flow-solid (f_plain p s) k = plain-solid p k.0
 flow-solid (f_quoted q) k = quoted-solid q
-flow-solid (f_seq {t = t} n d e) k = rw e (solid (byte-none 91 (spaces n ++ t) (unfold white1 within in refl) refl refl refl refl))
-flow-solid (f_map {t = t} n d e) k = rw e (solid (byte-none 123 (spaces n ++ t) (unfold white1 within in refl) refl refl refl refl))
+flow-solid (f_seq {t = t} n d e) k = rw e (solid (first-none 91 (spaces n ++ t) (omega arith) (omega arith)))
+flow-solid (f_map {t = t} n d e) k = rw e (solid (first-none 123 (spaces n ++ t) (omega arith) (omega arith)))
 
 key-solid : {s : List ℕ} {r : Rep} (d : Key s r) → KeptKey d → (u : List ℕ) → Solid (s ++ (ch ":" ∷ u))
 unfolding KeptKey

@@ -1,6 +1,7 @@
 -- The lines of a text are the rows of its derivation (`Splits`). Assumes nothing.
 use Rattle.std.specs.Prelude.{if◌then◌else◌}
 use Rattle.std.proofs.Common.{◌≡◌, refl, sym, ap, ◌∙◌, subst, ⊎_elim, ℕ, zero, suc, ◌<◌, arith, List, [], ◌∷◌, ◌++◌, append-nil, Bool, true, false, ◌&&◌, ◌||◌, not, T, eqb, leb, ltb, eqb→eq, ltb→lt, eqb-true, le-leb}
+use Rattle.std.proofs.Math.Facts.{and_yes, or_yes}
 use Rattle.std.proofs.Math.Option.{Option}
 use Rattle.refusal.specs.Base.{ch, bytes, empty}
 use Rattle.item.specs.Tree.{many, keyed}
@@ -9,7 +10,7 @@ use Rattle.yaml.specs.Characters.{ns_char, nb_char, among, white, whites, nb_cha
 use Rattle.yaml.specs.Scalars.{Context, flow_out, flow_in, plain_safe, safe_next, plain_first, plain_char, PlainRest, p_end, p_char, p_space, p_tab, Plain}
 use Rattle.yaml.specs.Scalars.{plain, Escape, esc_n, esc_t, esc_r, esc_0, esc_quote, esc_back, esc_slash, DoubleText, d_end, d_char, d_escaped}
 use Rattle.yaml.specs.Scalars.{SingleText, s_end, s_char, s_twice}
-use Rattle.yaml.proofs.Tests.{and-two, or-two, differs}
+use Rattle.yaml.proofs.Tests.{differs}
 use Rattle.yaml.proofs.PlainReads.{by_first}
 use Rattle.yaml.proofs.Whites.{white-byte}
 use Rattle.yaml.specs.Represent.{Graph, Rep}
@@ -31,7 +32,7 @@ pub data Nb : List ℕ → Type 0 where
 nb-of : (t : List ℕ) → T (nb_chars t) → Nb t
 unfolding nb_chars
 nb-of [] h = n_end
-nb-of (b ∷ t) h = let k = and-two (nb_char b) (nb_chars t) h in n_char k.0 (nb-of t k.1)
+nb-of (b ∷ t) h = let k = and_yes (nb_char b) (nb_chars t) h in n_char k.0 (nb-of t k.1)
 
 nb-join : {a b : List ℕ} → Nb a → Nb b → Nb (a ++ b)
 nb-join n_end g = g
@@ -47,7 +48,7 @@ nb-white = white-byte (λ b. T (nb_char b)) tt tt
 nb-whites : (x : List ℕ) → T (whites x) → Nb x
 unfolding whites
 nb-whites [] h = n_end
-nb-whites (b ∷ x) h = let k = and-two (white b) (whites x) h in n_char (nb-white b k.0) (nb-whites x k.1)
+nb-whites (b ∷ x) h = let k = and_yes (white b) (whites x) h in n_char (nb-white b k.0) (nb-whites x k.1)
 
 nb-comment : (s : List ℕ) → T (comment_line s) → Nb s
 unfolding comment_line
@@ -56,18 +57,18 @@ nb-comment (b ∷ s) h = go (eqb b 35) refl h (nb-comment s)
   where
     go : (x : Bool) → eqb b 35 ≡ x → T (if x then nb_chars s else white b && comment_line s) → (T (comment_line s) → Nb s) → Nb (b ∷ s)
     go true e h ih = n_char (subst (λ (x : ℕ). T (nb_char x)) (sym (eqb-true b 35 e)) tt) (nb-of s h)
-    go false e h ih = let k = and-two (white b) (comment_line s) h in n_char (nb-white b k.0) (ih k.1)
+    go false e h ih = let k = and_yes (white b) (comment_line s) h in n_char (nb-white b k.0) (ih k.1)
 
 nb-tail : (w : List ℕ) → T (tail w) → Nb w
 unfolding tail
 nb-tail [] h = n_end
-nb-tail (b ∷ w) h = let k = and-two (white b) (comment_line w) h in n_char (nb-white b k.0) (nb-comment w k.1)
+nb-tail (b ∷ w) h = let k = and_yes (white b) (comment_line w) h in n_char (nb-white b k.0) (nb-comment w k.1)
 
 -- ---- flow nodes
 
 ns-nb : (b : ℕ) → T (ns_char b) → T (nb_char b)
 ns-nb b h =
-    let k : 32 < b = ltb→lt _ _ (and-two (ltb 0x20 b) _ h).0 in
+    let k : 32 < b = ltb→lt _ _ (and_yes (ltb 0x20 b) _ h).0 in
     right (eqb b 9) (leb 32 b) (le-leb 32 b (omega arith))
   where
     right : (x y : Bool) → y ≡ true → T (x || y)
@@ -80,15 +81,15 @@ of-byte x b h g = subst (λ (c : ℕ). T (nb_char c)) (sym (eqb→eq b x h)) g
 safe-nb : (c : Context) (b : ℕ) → T (plain_safe c b) → T (nb_char b)
 unfolding plain_safe
 safe-nb flow_out b h = ns-nb b h
-safe-nb flow_in b h = ns-nb b (and-two (ns_char b) _ h).0
+safe-nb flow_in b h = ns-nb b (and_yes (ns_char b) _ h).0
 
 char-nb : (c : Context) (a b : ℕ) (t : List ℕ) → T (plain_char c a b t) → T (nb_char b)
 unfolding plain_char
 char-nb c a b t h = ⊎_elim
-    (λ h. ⊎_elim (λ h. safe-nb c b (and-two (plain_safe c b) _ h).0) (λ h. of-byte 35 b (and-two (eqb b 35) _ h).0 tt)
-    (or-two (plain_safe c b && not (among b (bytes ":#"))) (eqb b 35 && ns_char a) h))
-    (λ h. of-byte 58 b (and-two (eqb b 58) _ h).0 tt)
-    (or-two ((plain_safe c b && not (among b (bytes ":#"))) || (eqb b 35 && ns_char a)) (eqb b 58 && safe_next c t) h)
+    (λ h. ⊎_elim (λ h. safe-nb c b (and_yes (plain_safe c b) _ h).0) (λ h. of-byte 35 b (and_yes (eqb b 35) _ h).0 tt)
+    (or_yes (plain_safe c b && not (among b (bytes ":#"))) (eqb b 35 && ns_char a) h))
+    (λ h. of-byte 58 b (and_yes (eqb b 58) _ h).0 tt)
+    (or_yes ((plain_safe c b && not (among b (bytes ":#"))) || (eqb b 35 && ns_char a)) (eqb b 58 && safe_next c t) h)
 
 first-nb : (c : Context) (b : ℕ) (t : List ℕ) → T (plain_first c b t) → T (nb_char b)
 unfolding bytes
@@ -114,12 +115,12 @@ escape-nb esc_slash = tt
 
 double-nb : {t v : List ℕ} → DoubleText t v → Nb t
 double-nb d_end = n_end
-double-nb (d_char {b = b} h d) = n_char (and-two (nb_char b) _ (and-two (nb_char b && not (eqb b 34)) _ h).0).0 (double-nb d)
+double-nb (d_char {b = b} h d) = n_char (and_yes (nb_char b) _ (and_yes (nb_char b && not (eqb b 34)) _ h).0).0 (double-nb d)
 double-nb (d_escaped {b = b} e d) = n_char tt (n_char (escape-nb e) (double-nb d))
 
 single-nb : {t v : List ℕ} → SingleText t v → Nb t
 single-nb s_end = n_end
-single-nb (s_char {b = b} h d) = n_char (and-two (nb_char b) (not (eqb b 39)) h).0 (single-nb d)
+single-nb (s_char {b = b} h d) = n_char (and_yes (nb_char b) (not (eqb b 39)) h).0 (single-nb d)
 single-nb (s_twice d) = n_char tt (n_char tt (single-nb d))
 
 quoted-nb : {s v : List ℕ} → Quoted s v → Nb s
@@ -290,7 +291,7 @@ rows_split (r ∷ []) (k_row h d) g = go (break_of r) g
     go crlf g = split-row (13 ∷ 10 ∷ []) [] h (split-crlf [])
     go eof g = rw (append-nil (raw r)) (split-last h g)
 rows_split (r ∷ s ∷ rs) (k_row h d) g =
-    let k = and-two (not (is_eof (break_of r))) (ends_last (s ∷ rs)) g in go (break_of r) k.0 (rows_split (s ∷ rs) d k.1)
+    let k = and_yes (not (is_eof (break_of r))) (ends_last (s ∷ rs)) g in go (break_of r) k.0 (rows_split (s ∷ rs) d k.1)
   where
     go : (b : Break) → T (not (is_eof b)) → split_lines (text_of (s ∷ rs)) ≡ raws (s ∷ rs) → split_lines (raw r ++ (break_text b ++ text_of (s ∷ rs))) ≡ raw r ∷ raws (s ∷ rs)
     go lf n ih = split-row (10 ∷ text_of (s ∷ rs)) (raws (s ∷ rs)) h (split-lf (text_of (s ∷ rs)) ∙ ap (λ (x : List (List ℕ)). [] ∷ x) ih)

@@ -1,5 +1,6 @@
 -- Laws of tests, and of bytes that are or are not in a list. Assumes nothing.
-use Rattle.std.proofs.Common.{◌≡◌, refl, sym, ap, ◌∙◌, subst, ◌⊎◌, inl, inr, ℕ, List, [], ◌∷◌, Bool, true, false, ◌&&◌, ◌||◌, not, true≢false, T, eqb, eqb-true, ne_eqb}
+use Rattle.std.proofs.Common.{◌≡◌, refl, ap, ◌∙◌, subst, ⊎_elim, ℕ, List, [], ◌∷◌, Bool, true, false, not, T, eqb, eqb→eq, ne_eqb}
+use Rattle.std.proofs.Math.Facts.{or_yes}
 use Rattle.yaml.specs.Characters.{among}
 
 pub is_true : (b : Bool) → T b → b ≡ true
@@ -10,22 +11,6 @@ pub is_false : (b : Bool) → T (not b) → b ≡ false
 is_false true h = absurd h
 is_false false h = refl
 
-pub test : (b : Bool) → (b ≡ true) ⊎ (b ≡ false)
-test true = inl refl
-test false = inr refl
-
-pub and-two : (a b : Bool) → T (a && b) → T a × T b
-and-two true b h = (tt, h)
-and-two false b h = absurd h
-
-pub or-two : (a b : Bool) → T (a || b) → T a ⊎ T b
-or-two true b h = inl tt
-or-two false b h = inr h
-
-pub neither : (a b : Bool) → a || b ≡ false → (a ≡ false) × (b ≡ false)
-neither true b e = absurd (true≢false e)
-neither false b e = (refl, e)
-
 -- what holds of each of a list
 abbrev pub All : {A : Type 0} → (A → Type 0) → List A → Type 0
 All P [] = Unit {0}
@@ -35,11 +20,7 @@ All P (x ∷ l) = P x × All P l
 pub by-each : (P : ℕ → Type 0) (l : List ℕ) → All P l → (b : ℕ) → T (among b l) → P b
 unfolding among
 by-each P [] h b k = absurd k
-by-each P (x ∷ l) h b k = go (eqb b x) refl k (λ q. by-each P l h.1 b q)
-  where
-    go : (t : Bool) → eqb b x ≡ t → T (t || among b l) → (T (among b l) → P b) → P b
-    go true e q ih = subst P (sym (eqb-true b x e)) h.0
-    go false e q ih = ih q
+by-each P (x ∷ l) h b k = ⊎_elim (λ e. rw (eqb→eq b x e) h.0) (λ q. by-each P l h.1 b q) (or_yes (eqb b x) (among b l) k)
 
 -- a byte with a property is none without it
 pub differs : (p : ℕ → Bool) (b x : ℕ) → T (p b) → p x ≡ false → eqb b x ≡ false

@@ -1,12 +1,13 @@
 -- The whole: a text that is YAML, that document 01 keeps, and that is within the limits is read as YAML reads it (`Reads`). What it says of
 -- the job, and that no text has two trees. Assumes nothing.
 use Rattle.std.proofs.Common.{◌≡◌, refl, sym, ap, ◌∙◌, subst, ℕ, zero, suc, ◌+◌, ◌≤◌, min, ◌^◌, arith, List, [], ◌∷◌, ◌++◌, append-nil, true, T, leb, length, take, drop, take_at, leb-true, le-leb}
-use Rattle.std.proofs.lemmas.Bool.{false≢true}
+use Rattle.std.proofs.Math.Facts.{and_yes}
+use Rattle.std.proofs.lemmas.Bool.{false≢true, and_parts}
 use Rattle.std.proofs.Math.Option.{Option, some}
 use Rattle.refusal.specs.Base.{Answer, good, ◌>>=◌, ◌>>◌, ensure}
 use Rattle.refusal.proofs.Tools.{good-inj}
 use Rattle.utf8.specs.Utf8.{Range, ◌‥◌, within, is_utf8}
-use Rattle.utf8.proofs.Ranges.{if-both, if-one, inside, above}
+use Rattle.utf8.proofs.Ranges.{if-one, inside, above}
 use Rattle.utf8.specs.Points.{in_any, scalar}
 use Rattle.utf8.proofs.Utf8Laws.{utf8_nil}
 use Rattle.utf8.proofs.Utf8Points.{utf8_encode}
@@ -31,7 +32,7 @@ use Rattle.yaml.specs.Block.{Document, d_none, d_one, Stream}
 use Rattle.yaml.specs.Kept.{Kept, KeptDocument}
 use Rattle.yaml.specs.Reads.{Reads, entries, Limits}
 use Rattle.yaml.proofs.Parts.{lines_of, as_events, Below, Splits, Scans, ReadsBlock}
-use Rattle.yaml.proofs.Tests.{is_true, and-two}
+use Rattle.yaml.proofs.Tests.{is_true}
 use Rattle.yaml.proofs.Trees.{some-eq}
 use Rattle.yaml.proofs.SplitReads.{splits}
 use Rattle.yaml.proofs.ScanReads.{scans}
@@ -42,13 +43,13 @@ use Rattle.yaml.proofs.BlockReads.{reads-block}
 low : (r : Range) (c : ℕ) → r.high ≤ 0xd7ff → within r c ≡ true → scalar c ≡ true
 unfolding scalar in_any within
 low r c h e =
-    let u : c ≤ r.high = leb-true c r.high (if-both (leb r.low c) (leb c r.high) e).1 in
+    let u : c ≤ r.high = leb-true c r.high (and_parts (leb r.low c) (leb c r.high) e).1 in
     rw (inside (0x0 ‥ 0xd7ff) c (omega arith) (omega arith))
 
 high : (r : Range) (c : ℕ) → 0xe000 ≤ r.low → r.high ≤ 0x10ffff → within r c ≡ true → scalar c ≡ true
 unfolding scalar in_any within
 high r c g h e =
-    let w = if-both (leb r.low c) (leb c r.high) e in
+    let w = and_parts (leb r.low c) (leb c r.high) e in
     let u : r.low ≤ c = leb-true r.low c w.0 in
     let v : c ≤ r.high = leb-true c r.high w.1 in
     rw (above (0x0 ‥ 0xd7ff) c (omega arith), inside (0xe000 ‥ 0x10ffff) c (omega arith) (omega arith))
@@ -70,7 +71,7 @@ printed : (cs : List ℕ) → T (all_printable cs) → is_utf8 (utf8_of cs) ≡ 
 unfolding utf8_of all_printable
 printed [] h = utf8_nil
 printed (c ∷ cs) h =
-    let k = and-two (printable c) (all_printable cs) h in
+    let k = and_yes (printable c) (all_printable cs) h in
     utf8_encode c (utf8_of cs) ∙ rw (printable-scalar c (is_true (printable c) k.0)) (printed cs k.1)
 
 -- ---- the entries within their limit

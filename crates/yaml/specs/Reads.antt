@@ -1,6 +1,6 @@
 -- What is proved of the reader against the grammar. It is no converse: a text that the reader accepts need not be YAML, and a stream with
--- no document is read as null, by document 01 alone. Uses Base of `refusal`; Tree and Encode of `item`; Tree of `tree`; Meaning, Record and
--- Meanings of `meaning`; Scenario of `scenario`; Represent, Rows, Block and Kept of this crate. Assumes nothing.
+-- no document is read as null, by document 01 alone. Uses Base of `refusal`; Lines of `lines`; Tree and Encode of `item`; Tree of `tree`;
+-- Meaning, Record and Meanings of `meaning`; Scenario of `scenario`; Represent, Rows, Block and Kept of this crate. Assumes nothing.
 use Rattle.std.specs.Prelude.{◌≡◌, ℕ, suc, ◌/◌, ◌≤◌, min, List, [], ◌∷◌, length}
 use Rattle.std.proofs.Math.Option.{Option, some}
 use Rattle.refusal.specs.Base.{good, limit}

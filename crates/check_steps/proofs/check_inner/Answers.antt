@@ -1,8 +1,9 @@
 -- Each step is read, then those whose command is not known are told. Assumes nothing.
 use Rattle.std.proofs.Common.{refl, Ok, Err, arith, rules}
-use Rattle.std.proofs.lemmas.Result.{err_from_is_err_and}
+use Rattle.refusal.proofs.Tools.{err_is}
 use Rattle.item.proofs.Turns.{turn, stop}
 use Rattle.nodes.proofs.Items.{item_turn, no_item_here}
+use Rattle.check_steps.proofs.Places.{onward}
 use Rattle.check_steps.proofs.Inner.{walk-passed, walk-unknown, walk_refused, walk-on}
 use Rattle.check_steps.proofs.check_inner.Goals as goal
 
@@ -10,27 +11,23 @@ pub returns-in_default : goal.returns-in_default
 returns-in_default c = λ ns e ys h.
     let i = c.loop-before.invariant in
     let w = i.walked ns e ys h in
-    no_item_here w.rest (search rules) w.holds (stop _ _ i.bytes i.to c.in-Some.ensures.steps.0 c.in_default.is)
+    no_item_here w.rest (search rules) w.holds (stop _ _ i.walk.bytes i.walk.ends c.in-Some.ensures.steps.0 c.in_default.is)
 
 pub returns-in_err-step : goal.returns-in_err-step
 returns-in_err-step c = λ ns e ys h.
     let i = c.loop-before.invariant in
     let n = c.in-Some.ensures.steps in
     let w = rw (← n.1) at (i.walked ns e ys h) in
-    let p = err_from_is_err_and c.from_residual.result c.from_residual.ensures.1 in
-    rw (p.1, p.2)
-    (walk_refused w (item_turn w.rest (search rules) w.holds (turn _ _ i.bytes i.to n.0 c.in-Ok.is)) {r = Err c.in_err-step.field-0.0} (λ y g k. c.in_err-step.ensures.step y (record { ranged = g; item_is = k })) refl)
+    rw (err_is _ c.from_residual.ensures.1)
+    (walk_refused w (item_turn w.rest (search rules) w.holds (turn _ _ i.walk.bytes i.walk.ends n.0 c.in-Ok.is)) {r = Err c.in_err-step.field-0.0} (λ y g k. c.in_err-step.ensures.step y (record { ranged = g; item_is = k })) refl)
 
 pub loop-before-preserved : goal.loop-before-preserved
 loop-before-preserved c =
     let i = c.loop-before.invariant in
     let n = c.in-Some.ensures.steps in
-    let t = turn _ _ i.bytes i.to n.0 c.in-Ok.is in
+    let t = turn _ _ i.walk.bytes i.walk.ends n.0 c.in-Ok.is in
     record {
-      bytes = t.bytes;
-      to = t.end;
-      forward = omega (arith, i.forward, t.next, t.places.start, t.places.order);
-      few = omega (arith, i.forward, i.few, n.2, t.next, t.places.start, t.places.order);
+      walk = onward i.walk t (omega (arith, n.2));
       walked = λ ns e ys h.
           let w = rw (← n.1) at (i.walked ns e ys h) in
           rw (t.next, n.2, ← n.1)

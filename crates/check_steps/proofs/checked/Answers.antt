@@ -1,6 +1,6 @@
 -- The check of the record, that of the list, then the steps. Assumes nothing.
 use Rattle.std.proofs.Common.{sym, ◌∙◌}
-use Rattle.std.proofs.lemmas.Result.{err_from_is_err_and}
+use Rattle.refusal.proofs.Tools.{err_is}
 use Rattle.record.proofs.Views.{some_is}
 use Rattle.record.proofs.StepPlaces.{opened_steps}
 use Rattle.check_steps.specs.Names.{names_in}
@@ -11,8 +11,7 @@ use Rattle.check_steps.proofs.checked.Goals as goal
 pub returns-in_err-steps : goal.returns-in_err-steps
 returns-in_err-steps c =
     let a = c.args in
-    let p = err_from_is_err_and c.from_residual.result c.from_residual.ensures.1 in
-    rw (p.1, p.2) (no_record a.«record».now a.lines.now a.names.now c.in_err-steps.ensures)
+    rw (err_is _ c.from_residual.ensures.1) (no_record a.«record».now a.lines.now a.names.now c.in_err-steps.ensures)
 
 pub returns-then-not-is_list : goal.returns-then-not-is_list
 returns-then-not-is_list c = bad-list (opened_steps c.in_ok-steps.ensures) _ _ (sym c.if-not-is_list.true ∙ c.is_list.ensures)
@@ -37,5 +36,4 @@ pub returns-in_err-check_all : goal.returns-in_err-check_all
 returns-in_err-check_all c =
     let n = some_is (names_in c.args.names.now) (sym c.is_list.ensures ∙ c.if-not-is_list.false) in
     let w = c.in_ok-steps.ensures in
-    let p = err_from_is_err_and c.from_residual-in_err-check_all.result c.from_residual-in_err-check_all.ensures.1 in
-    rw (p.1, p.2) (refused-is (opened_steps w) _ _ n.0 n.1 (c.in_err-check_all.ensures n.0 (listed _ n.0 n.1).is w.meaning.steps (rw w.bytes w.lie)))
+    rw (err_is _ c.from_residual-in_err-check_all.ensures.1) (refused-is (opened_steps w) _ _ n.0 n.1 (c.in_err-check_all.ensures n.0 (listed _ n.0 n.1).is w.meaning.steps (rw w.bytes w.lie)))

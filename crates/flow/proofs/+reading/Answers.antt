@@ -1,12 +1,10 @@
 use Rattle.std.proofs.Common.{sym, ◌∙◌, ◌<◌, arith, rules, length}
 use Rattle.std.proofs.lemmas.Bool.{not-false}
-use Rattle.std.proofs.lemmas.Result.{err_from_is_err_and}
+use Rattle.refusal.proofs.Tools.{err_is}
 use Rattle.writer.specs.Writing.{cap_of}
-use Rattle.scalar.specs.declared.Role.TheVariants.{AsValue}
 use Rattle.scalar.specs.Contract.{is_in_flow}
-use Rattle.entries.proofs.Parts.{in_part}
-use Rattle.flow.proofs.Invariants.{listed_at, list_open, list-stuck, list_stops, list_less, listed_next, mapped_at, map-open, map_stops, mapped_next, mapping_twice, mapping_done, lies_in_front}
-use Rattle.flow.proofs.Values.{reads_as, value-end, value-double, value-single, value-plain, value_null, entry_stops, entry_reads}
+use Rattle.flow.proofs.Invariants.{listed_at, list_open, list-stuck, list_stops, list_less, listed_next, mapped_at, map-open, map_stops, mapped_next, mapping_twice, mapping_done, lies_in_written}
+use Rattle.flow.proofs.Values.{reads_as, value-end, value-double, value-single, value-plain, value_null, place_read, place_refused, entry_ends_so}
 use Rattle.flow.proofs.+reading.Goals as goal
 
 -- ---- entries
@@ -28,24 +26,14 @@ entries-returns-in-Err t c =
 
 -- ---- an entry
 
-pub entry-returns-in_err-read : goal.entry-returns-in_err-read
-entry-returns-in_err-read t c =
-    let a = c.args in
-    let k = c.skip_spaces-colon in
-    let d = c.skip_spaces in
-    let h : k.result < length a.s.now = omega (arith, k.ensures.in_range, c.if-colon-s.false) in
-    let p = err_from_is_err_and c.from_residual-in_err-read.result c.from_residual-in_err-read.ensures.1 in
-    rw (p.1, p.2)
-    (entry_stops a.s.now a.i a.site.line a.site.levels a.writer.now _ _ _ c.in_ok-key.ensures (not-false _ c.if-not-key.false) k.result k.ensures.rest h c.if-s-colon-ne58.false d.result d.ensures.rest _ _ c.in_err-read.ensures)
-
 pub entry-returns : goal.entry-returns
 entry-returns t c =
     let a = c.args in
     let k = c.skip_spaces-colon in
     let d = c.skip_spaces in
     let h : k.result < length a.s.now = omega (arith, k.ensures.in_range, c.if-colon-s.false) in
-    entry_reads a.s.now a.i a.site.line a.site.levels a.writer.now _ _ _ c.in_ok-key.ensures (not-false _ c.if-not-key.false) k.result k.ensures.rest h c.if-s-colon-ne58.false d.result d.ensures.rest
-    c.requires.in_range k.ensures.forward (omega (arith, d.ensures.forward)) d.ensures.in_range _ _ _ c.in_ok-read.ensures
+    entry_ends_so a.s.now a.i a.site.line a.site.levels a.writer.now _ _ _ c.in_ok-key.ensures (not-false _ c.if-not-key.false) k.result k.ensures.rest h c.if-s-colon-ne58.false d.result d.ensures.rest
+    c.requires k.ensures.forward (omega (arith, d.ensures.forward)) d.ensures.in_range _ _ c.entry_value.ensures
 
 -- ---- a mapping
 
@@ -54,14 +42,14 @@ mapping-returns-then-repeats t c =
     let a = c.args in
     let w = c.entries-end.new.writer in
     mapping_twice a.s.now _ a.site.line a.writer.now w _ c.entries-end.ensures c.repeats.result (λ es l.
-    c.repeats.ensures es (in_part es c.part.ensures.bytes c.part.ensures.places (rw (c.used-first.ensures, c.used.ensures, c.written.ensures) (lies_in_front w.out.now a.writer.now.used w.used es w.within l)))) c.if-repeats.true
+    c.repeats.ensures es (lies_in_written es c.part.ensures.bytes c.part.ensures.places c.used-first.ensures c.used.ensures c.written.ensures w.within l)) c.if-repeats.true
 
 pub mapping-returns : goal.mapping-returns
 mapping-returns t c =
     let a = c.args in
     let w = c.entries-end.new.writer in
     mapping_done a.s.now _ a.site.line a.writer.now w _ c.entries-end.ensures c.repeats.result (λ es l.
-    c.repeats.ensures es (in_part es c.part.ensures.bytes c.part.ensures.places (rw (c.used-first.ensures, c.used.ensures, c.written.ensures) (lies_in_front w.out.now a.writer.now.used w.used es w.within l)))) c.if-repeats.false
+    c.repeats.ensures es (lies_in_written es c.part.ensures.bytes c.part.ensures.places c.used-first.ensures c.used.ensures c.written.ensures w.within l)) c.if-repeats.false
 
 -- ---- a sequence
 
@@ -78,8 +66,7 @@ sequence-returns-then-is_stuck t c =
 pub sequence-returns-in_err-read : goal.sequence-returns-in_err-read
 sequence-returns-in_err-read t c =
     let k = c.skip_separators-i.ensures in
-    let p = err_from_is_err_and c.from_residual.result c.from_residual.ensures.1 in
-    rw (p.1, p.2) (list_stops (listed_at c.loop-site.invariant c.used-first.ensures c.used.ensures k.rest k.in_range k.other) (omega (arith, k.in_range, c.if-i-s.false)) c.if-s-i-eq93.false (sym c.stuck-is_stuck.ensures ∙ c.if-is_stuck.false) _ _ c.in_err-read.ensures)
+    rw (err_is _ c.from_residual.ensures.1) (list_stops (listed_at c.loop-site.invariant c.used-first.ensures c.used.ensures k.rest k.in_range k.other) (omega (arith, k.in_range, c.if-i-s.false)) c.if-s-i-eq93.false (sym c.stuck-is_stuck.ensures ∙ c.if-is_stuck.false) _ _ c.in_err-read.ensures)
 
 pub sequence-loop-site-smaller : goal.sequence-loop-site-smaller
 sequence-loop-site-smaller t c =
@@ -123,8 +110,14 @@ value-returns-in_default t c =
 
 -- ---- the value of an entry
 
+pub entry_value-returns-in_err-null : goal.entry_value-returns-in_err-null
+entry_value-returns-in_err-null t c =
+    let a = c.args in
+    let w = a.writer.now in
+    place_refused _ _ a.s.now w _ _ _ c.from_residual.ensures.1 (value_null a.s.now a.i (cap_of w) a.site.line a.site.levels w.used (omega (arith, c.if-i-s.true)) (sym c.leaves_out.ensures ∙ c.if-leaves_out.true)) (c.in_err-null.ensures a.site.line)
+
 pub entry_value-returns-then-leaves_out : goal.entry_value-returns-then-leaves_out
 entry_value-returns-then-leaves_out t c =
     let a = c.args in
     let w = a.writer.now in
-    reads_as AsValue _ _ a.s.now w _ _ (value_null a.s.now a.i (cap_of w) a.site.line a.site.levels w.used (omega (arith, c.if-i-s.true)) (sym c.leaves_out.ensures ∙ c.if-leaves_out.true)) (c.null_at.ensures a.site.line)
+    place_read _ _ a.s.now w _ _ _ (value_null a.s.now a.i (cap_of w) a.site.line a.site.levels w.used (omega (arith, c.if-i-s.true)) (sym c.leaves_out.ensures ∙ c.if-leaves_out.true)) (c.in_ok-null.ensures a.site.line)

@@ -1,15 +1,13 @@
 -- The step with the number, then its value. Assumes nothing.
 use Rattle.std.proofs.Common.{sym, ap, ◌∙◌, arith}
-use Rattle.std.proofs.lemmas.Result.{err_from_is_err_and}
+use Rattle.refusal.proofs.Tools.{err_is}
 use Rattle.record.specs.Contract.{span_of}
 use Rattle.record.proofs.StepPlaces.{step-long}
 use Rattle.lookups.proofs.Numbers.{number-found, value_refused, value-is}
 use Rattle.lookups.proofs.beside_key.Goals as goal
 
 pub returns-in_err-step : goal.returns-in_err-step
-returns-in_err-step c =
-    let p = err_from_is_err_and c.from_residual.result c.from_residual.ensures.1 in
-    rw (p.1, p.2) (value_refused _ _ _ c.in_err-step.ensures)
+returns-in_err-step c = rw (err_is _ c.from_residual.ensures.1) (value_refused _ _ _ c.in_err-step.ensures)
 
 pub invariant_of-record : goal.invariant_of-record
 invariant_of-record c = record { short = (number-found _ _ (λ i. omega (arith, c.type_inv.«record» i)) (ap span_of (sym c.in-Some.is) ∙ c.in_ok-step.ensures)).there.size }

@@ -1,16 +1,14 @@
 -- The value beside `times`, and what it comes to. Assumes nothing.
 use Rattle.std.proofs.Common.{sym, ap, ◌∙◌, arith}
-use Rattle.std.proofs.lemmas.Result.{err_from_is_err_and}
 use Rattle.refusal.specs.Base.{bytes}
+use Rattle.refusal.proofs.Tools.{err_is}
 use Rattle.record.specs.Contract.{span_of}
 use Rattle.lookups.proofs.Numbers.{times-refused, times-missing, times-found}
 use Rattle.lookups.proofs.told_times.Goals as goal
 
 pub returns-in_err-times : goal.returns-in_err-times
 unfolding bytes
-returns-in_err-times c =
-    let p = err_from_is_err_and c.from_residual.result c.from_residual.ensures.1 in
-    rw (p.1, p.2) (times-refused _ _ c.in_err-times.ensures)
+returns-in_err-times c = rw (err_is _ c.from_residual.ensures.1) (times-refused _ _ c.in_err-times.ensures)
 
 pub overflow_cast-result : goal.overflow_cast-result
 unfolding bytes

@@ -1,13 +1,11 @@
 -- The check, then the search among the steps. Assumes nothing.
-use Rattle.std.proofs.lemmas.Result.{err_from_is_err_and}
+use Rattle.refusal.proofs.Tools.{err_is}
 use Rattle.record.proofs.StepPlaces.{opened_steps}
 use Rattle.lookups.proofs.Numbers.{by-id, id_refused}
 use Rattle.lookups.proofs.with_id.Goals as goal
 
 pub returns-in_err-steps : goal.returns-in_err-steps
-returns-in_err-steps c =
-    let p = err_from_is_err_and c.from_residual.result c.from_residual.ensures.1 in
-    rw (p.1, p.2) (id_refused _ _ c.in_err-steps.ensures)
+returns-in_err-steps c = rw (err_is _ c.from_residual.ensures.1) (id_refused _ _ c.in_err-steps.ensures)
 
 pub returns : goal.returns
 returns c =

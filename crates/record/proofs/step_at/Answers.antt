@@ -1,7 +1,7 @@
 -- The check, the number, then the walk over the headers. Assumes nothing.
 use Rattle.std.proofs.Common.{ap, ◌∙◌, ◌-◌, arith}
-use Rattle.std.proofs.lemmas.Result.{err_from_is_err_and}
 use Rattle.std.proofs.lemmas.Grind.{common_steps}
+use Rattle.refusal.proofs.Tools.{err_is}
 use Rattle.record.specs.Contract.{span_of}
 use Rattle.record.proofs.Lookups.{step-refused}
 use Rattle.record.proofs.Answers.{outside, step_outside, step_in}
@@ -9,9 +9,7 @@ use Rattle.record.proofs.StepPlaces.{opened_steps}
 use Rattle.record.proofs.step_at.Goals as goal
 
 pub returns-in_err-steps : goal.returns-in_err-steps
-returns-in_err-steps c =
-    let p = err_from_is_err_and c.from_residual.result c.from_residual.ensures.1 in
-    rw (p.1, p.2) (step-refused _ _ _ _ c.in_err-steps.ensures c.args.number)
+returns-in_err-steps c = rw (err_is _ c.from_residual.ensures.1) (step-refused _ _ _ _ c.in_err-steps.ensures c.args.number)
 
 pub returns-then-not-contains : goal.returns-then-not-contains
 returns-then-not-contains c =

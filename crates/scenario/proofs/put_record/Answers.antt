@@ -1,19 +1,17 @@
 -- The parts are read; then come the fields before the steps, the steps and the header. Assumes nothing.
-use Rattle.std.proofs.lemmas.Result.{err_from_is_err_and}
+use Rattle.refusal.proofs.Tools.{err_is}
 use Rattle.step_lines.specs.StepLines.{step_lines}
 use Rattle.scenario.proofs.Writing.{top-refused, steps-refused, record-wrote}
 use Rattle.scenario.proofs.put_record.Goals as goal
 
 pub returns-in_err-top-clause-whole : goal.returns-in_err-top-clause-whole
 returns-in_err-top-clause-whole c = λ y g st.
-    let e = err_from_is_err_and c.from_residual.result c.from_residual.ensures.1 in
-    rw (e.1, e.2) (top-refused _ y (c.in_err-top.ensures.top y g st))
+    rw (err_is _ c.from_residual.ensures.1) (top-refused _ y (c.in_err-top.ensures.top y g st))
 
 pub returns-in_err-steps-clause-whole : goal.returns-in_err-steps-clause-whole
 returns-in_err-steps-clause-whole c = λ y g st.
     let t = c.in_ok-top.ensures.top y g st in
-    let e = err_from_is_err_and c.from_residual-in_err-steps.result c.from_residual-in_err-steps.ensures.1 in
-    rw (e.1, e.2) (steps-refused (step_lines c.args.text.now) y t.is (c.in_err-steps.ensures.steps t.top.steps t.stands.steps))
+    rw (err_is _ c.from_residual-in_err-steps.ensures.1) (steps-refused (step_lines c.args.text.now) y t.is (c.in_err-steps.ensures.steps t.top.steps t.stands.steps))
 
 pub returns-clause-whole : goal.returns-clause-whole
 returns-clause-whole c = λ y g st.

@@ -1,5 +1,5 @@
 use Rattle.std.proofs.Common.{rules, arith, ℕ, subst}
-use Rattle.std.proofs.lemmas.Result.{err_from_is_err_and}
+use Rattle.refusal.proofs.Tools.{err_is}
 use Rattle.entries.specs.Entries.{Holds}
 use Rattle.item.proofs.Turns.{turn, stop}
 use Rattle.nodes.proofs.Items.{item_turn, no_item_here}
@@ -37,8 +37,7 @@ returns-in_err-step_at-clause-steps c = λ ys h.
     let v = c.loop-item.invariant in
     let t = turn _ _ v.0 v.1 c.in-Some.ensures.steps c.in-Ok.is in
     let k = v.7 ys h in
-    let e = err_from_is_err_and c.from_residual.result c.from_residual.ensures.1 in
-    rw (e.1, e.2) (walk_refused k c.next_dash-dash.ensures (item_turn k.rest c.args.part.inside.2 k.holds t) c.in_err-step_at.field-0.0 (λ y g i. c.in_err-step_at.ensures.step y (record { ranged = g; item_is = i })))
+    rw (err_is _ c.from_residual.ensures.1) (walk_refused k c.next_dash-dash.ensures (item_turn k.rest c.args.part.inside.2 k.holds t) c.in_err-step_at.field-0.0 (λ y g i. c.in_err-step_at.ensures.step y (record { ranged = g; item_is = i })))
 
 pub loop-item-preserved : goal.loop-item-preserved
 loop-item-preserved c =

@@ -1,39 +1,30 @@
-use Rattle.std.proofs.Common.{Bor, List, ℕ, rules, arith, sym, subst}
+use Rattle.std.proofs.Common.{Bor, List, ℕ, rules, arith, refl, sym, subst}
 use Rattle.refusal.specs.Base.{bytes}
 use Rattle.item.specs.Tree.{get}
 use Rattle.entries.specs.Entries.{Finds}
 use Rattle.meaning.specs.Meanings.{commands}
-use Rattle.entries.proofs.Walking.{step, stop, turn, no-entry}
-use Rattle.step.proofs.Commands.{Ended, AgreesFound, command_part, no-command, Places, Left, more-places, walk_end, walk-on}
+use Rattle.entries.proofs.Walking.{stop, no-entry}
+use Rattle.step.proofs.Commands.{Ended, AgreesFound, command_part, no-command, turned, walk_end}
 use Rattle.step.proofs.entries_in.Goals as goal
 use Rattle.step.proofs.entries_in.Goals.{in-None, in-Some+in_default, in-One, in-Nothing}
 
+pub loop-pair-preserved-in-Some-Name : goal.loop-pair-preserved-in-Some-Name
+loop-pair-preserved-in-Some-Name c = turned _ _ (search rules) c.loop-pair.invariant c.in-Some.ensures.steps c.in-Ok.is c.of.ensures (rw (c.in-Some-Name.is, c.in-Some-Name.field-0-is, c.field_with-name.ensures) refl)
+
+pub loop-pair-preserved-in-Some-Id : goal.loop-pair-preserved-in-Some-Id
+loop-pair-preserved-in-Some-Id c = turned _ _ (search rules) c.loop-pair.invariant c.in-Some.ensures.steps c.in-Ok.is c.of.ensures (rw (c.in-Some-Id.is, c.in-Some-Id.field-0-is, c.field_with-id.ensures) refl)
+
+pub loop-pair-preserved-in-Some-Timeout : goal.loop-pair-preserved-in-Some-Timeout
+loop-pair-preserved-in-Some-Timeout c = turned _ _ (search rules) c.loop-pair.invariant c.in-Some.ensures.steps c.in-Ok.is c.of.ensures (rw (c.in-Some-Timeout.is, c.in-Some-Timeout.field-0-is, c.field_with-timeout.ensures) refl)
+
+pub loop-pair-preserved-in-Some-Continues : goal.loop-pair-preserved-in-Some-Continues
+loop-pair-preserved-in-Some-Continues c = turned _ _ (search rules) c.loop-pair.invariant c.in-Some.ensures.steps c.in-Ok.is c.of.ensures (rw (c.in-Some-Continues.is, c.in-Some-Continues.field-0-is, c.field_with-continues.ensures) refl)
+
+pub loop-pair-preserved-in-Some-Expect : goal.loop-pair-preserved-in-Some-Expect
+loop-pair-preserved-in-Some-Expect c = turned _ _ (search rules) c.loop-pair.invariant c.in-Some.ensures.steps c.in-Ok.is c.of.ensures (rw (c.in-Some-Expect.is, c.in-Some-Expect.field-0-is, c.field_with-expect.ensures) refl)
+
 pub loop-pair-preserved : goal.loop-pair-preserved
-unfolding bytes
-loop-pair-preserved c =
-    let a = c.args in
-    let v = c.loop-pair in
-    let p = c.in-Ok.pair in
-    let t = step _ _ v.invariant.0 v.invariant.1 c.in-Some.ensures.steps c.in-Ok.is in
-    let f : Places = record { name = v.name; id = v.id; timeout = v.timeout; continues = v.continues; expect = v.expect; command = v.command } in
-    let e = more-places f _ _ _
-    c.same_bytes-is_name.ensures
-    c.same_bytes-is_id.ensures
-    c.same_bytes-is_timeout.ensures
-    c.same_bytes-is_continues.ensures
-    c.same_bytes-is_expect.ensures
-    c.field_with-name.ensures
-    c.field_with-id.ensures
-    c.field_with-timeout.ensures
-    c.field_with-continues.ensures
-    c.field_with-expect.ensures
-    c.command_with-command.ensures in (
-      t.bytes,
-      t.end,
-      λ es h.
-          let l = v.invariant.2 es h in
-          rw t.next (subst (Left a.part.bytes.now a.part.to p.next es) (sym e) (walk-on l (turn l.rest (search rules) t.before t.is l.holds.lies) t.places.key)),
-    )
+loop-pair-preserved c = turned _ _ (search rules) c.loop-pair.invariant c.in-Some.ensures.steps c.in-Ok.is c.of.ensures (rw (c.in-None-of.is, c.command_with-command.ensures) refl)
 
 pub returns-clause-entries : goal.returns-clause-entries
 returns-clause-entries c = λ es h.

@@ -1,6 +1,6 @@
 -- By the kind of the value. Assumes nothing.
 use Rattle.std.proofs.Common.{subst}
-use Rattle.std.proofs.lemmas.Result.{err_from_is_err_and}
+use Rattle.refusal.proofs.Tools.{err_is}
 use Rattle.refusal.specs.Base.{Answer}
 use Rattle.meaning.specs.Meaning.{Defaults}
 use Rattle.top.specs.Contract.{AgreesDefaults}
@@ -16,8 +16,7 @@ returns-in_err-part-clause-defaults c = λ o h.
     let f = c.in-Some.ensures.value o h in
     let l = lost c.in_err-part.ensures.value in
     let k = rw l.0 at (c.mapping.ensures.entries f.value f.node_is) in
-    let e = err_from_is_err_and c.from_residual.result c.from_residual.ensures.1 in
-    rw (e.1, e.2, l.1) (defaults-other o f c.in-Some.ensures.other k)
+    rw (err_is _ c.from_residual.ensures.1, l.1) (defaults-other o f c.in-Some.ensures.other k)
 
 pub returns-clause-defaults : goal.returns-clause-defaults
 returns-clause-defaults c = λ o h.

@@ -1,6 +1,6 @@
 -- The refusals in their order. Assumes nothing.
 use Rattle.std.proofs.Common.{sym, subst, ◌∙◌}
-use Rattle.std.proofs.lemmas.Result.{err_from_is_err_and}
+use Rattle.refusal.proofs.Tools.{err_is}
 use Rattle.refusal.specs.Base.{bytes}
 use Rattle.top.specs.Contract.{KnownKeys}
 use Rattle.top.proofs.Parts.{top-21, top-22, top-24, top-23, passed, lost}
@@ -10,8 +10,7 @@ pub returns-in_err-part-clause-top : goal.returns-in_err-part-clause-top
 returns-in_err-part-clause-top c = λ y g st.
     let l = lost c.in_err-part.ensures.value in
     let k = rw l.0 at (c.document.ensures.entries y g st) in
-    let e = err_from_is_err_and c.from_residual.result c.from_residual.ensures.1 in
-    rw (e.1, e.2, l.1) (top-21 y k)
+    rw (err_is _ c.from_residual.ensures.1, l.1) (top-21 y k)
 
 pub returns-then-not-known_keys-clause-top : goal.returns-then-not-known_keys-clause-top
 returns-then-not-known_keys-clause-top c = λ y g st.
@@ -25,8 +24,7 @@ returns-in_err-schema-clause-top c = λ y g st.
     let n = subst (KnownKeys m.entries) c.if-not-known_keys.false (c.known_keys.ensures m.entries m.holds) in
     let l = lost c.in_err-schema.ensures.value in
     let t = rw l.0 at (c.scalar_of.ensures.text _ (c.value_of.ensures.value m.entries m.holds)) in
-    let e = err_from_is_err_and c.from_residual-in_err-schema.result c.from_residual-in_err-schema.ensures.1 in
-    rw (e.1, e.2, l.1) (top-24 y m.is n t)
+    rw (err_is _ c.from_residual-in_err-schema.ensures.1, l.1) (top-24 y m.is n t)
 
 pub returns-then-not-is_schema-clause-top : goal.returns-then-not-is_schema-clause-top
 unfolding bytes

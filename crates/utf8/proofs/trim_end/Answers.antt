@@ -1,4 +1,4 @@
-use Rattle.std.proofs.Common.{rules, refl, sym, ap, ◌∙◌, List, ℕ, ◌+◌, arith, length}
+use Rattle.std.proofs.Common.{rules, refl, ◌∙◌, arith}
 use Rattle.utf8.proofs.Turns.{end_turn, end_end, ends_none, visible_last}
 use Rattle.utf8.proofs.trim_end.Goals as goal
 
@@ -14,7 +14,7 @@ returns-after-loop-end-clause-value c =
     let a = c.args in
     let l = c.loop-end in
     let e = ends_none a.s.now a.from l.end (λ h. absurd (omega arith)) (λ h. absurd (omega arith)) (λ h. absurd (omega arith)) in
-    sym (ap (λ (t : List ℕ). a.from + length t) l.invariant.2 ∙ end_end a.s.now a.from l.end 0 (search rules) (search rules) e refl)
+    end_end a.s.now a.from l.end 0 (search rules) (search rules) e a.to l.invariant.2 refl
 
 pub returns-then-visible-clause-value : goal.returns-then-visible-clause-value
 returns-then-visible-clause-value c =
@@ -22,11 +22,11 @@ returns-then-visible-clause-value c =
     let l = c.loop-end in
     let v = c.visible.ensures c.if-visible.true in
     let e = visible_last a.s.now l.end (search rules) a.from (search rules) v.0 v.1 in
-    sym (ap (λ (t : List ℕ). a.from + length t) l.invariant.2 ∙ end_end a.s.now a.from l.end 0 (search rules) (search rules) e refl)
+    end_end a.s.now a.from l.end 0 (search rules) (search rules) e a.to l.invariant.2 refl
 
 pub returns-then-n-eq0-clause-value : goal.returns-then-n-eq0-clause-value
 returns-then-n-eq0-clause-value c =
     let a = c.args in
     let l = c.loop-end in
     let w = c.white_before-n in
-    sym (ap (λ (t : List ℕ). a.from + length t) l.invariant.2 ∙ end_end a.s.now a.from l.end w.result (search rules) (search rules) w.ensures c.if-n-eq0.true)
+    end_end a.s.now a.from l.end w.result (search rules) (search rules) w.ensures a.to l.invariant.2 c.if-n-eq0.true

@@ -1,4 +1,4 @@
--- `trim_end` meets its contract: a white space character at the end is trimmed, and where none is, nothing is. Assumes nothing.
+-- The invariant: what is trimmed at the end of the part is what is trimmed at the end of the part up to `end`. Assumes nothing.
 use Rattle.std.proofs.Common.{◌≡◌, ◌≤◌}
 use Rattle.utf8.specs.White.{trim_end}
 use Rattle.utf8.specs.Part.{part}

@@ -1,4 +1,4 @@
--- `trim_start` meets its contract: what is leading from `from` is what lies before `at` and what is leading from there. Assumes nothing.
+-- The invariant: what is leading from `from` is what lies before `at` and what is leading from there. Assumes nothing.
 use Rattle.std.proofs.Common.{◌≡◌, ◌+◌, ◌-◌, ◌≤◌}
 use Rattle.utf8.specs.White.{leading}
 use Rattle.utf8.specs.Part.{part}

@@ -7,11 +7,16 @@ use Rattle.item.specs.declared.Kind.{Kind}
 use Rattle.item.specs.declared.UnknownKind.{UnknownKind}
 use Rattle.item.specs.declared.Kind.TheVariants.{Null, Bool, Int, Str, Seq, Map, Scenario, Defaults, Steps, Step}
 use Rattle.item.proofs.Headers.{no_header as no-item-there}
-use Rattle.std.specs.Prelude.{Err}
+use Rattle.std.specs.Prelude.{Option, Result, Err}
+use Rattle.item.specs.Places.{header_at}
+use Rattle.item.specs.Walk.{Gives}
+use Rattle.item.specs.declared.walk.Walk.{Walk}
+use Rattle.item.specs.declared.Item.{Item}
 use Rattle.value.proofs.Invariants.{no_key, value-broken, value-missing, value-bad, value-read, items-start, items-end, items-next, items-fail, entries-end, entries_next, entries-fail, each-taken, key-bad, beside-bad, entry-read}
 use Rattle.entries.specs.Entries.{Lies}
 use Rattle.entries.proofs.Walking.{cut, lies_in}
-use Rattle.item.proofs.Turns.{turn, stop}
+use Rattle.item.proofs.Turns.{end_of, turn, stop}
+use Rattle.item.specs.declared.Broken.{Broken}
 use Rattle.value.proofs.+values.Goals as goal
 
 -- no kind of a value
@@ -34,6 +39,10 @@ of-records Step a b c d e f = omega arith
 lent : (levels kind : ℕ) {s t : List ℕ} {told b : Truth} → s ≡ t → told ≡ accepts levels kind s → told ≡ b → accepts levels kind t ≡ b
 lent levels kind e v b = ap (accepts levels kind) (sym e) ∙ sym v ∙ b
 
+-- what a walk gives, where that is known
+given_as : (old new : Walk Item) {r given : Option (Result Item Broken)} → r ≡ given → Gives header_at end_of old r new → Gives header_at end_of old given new
+given_as old new e g = subst (λ (x : Option (Result Item Broken)). Gives header_at end_of old x new) e g
+
 -- ---- entries
 
 pub entries-returns-in_default-key : goal.entries-returns-in_default-key
@@ -53,16 +62,17 @@ entries-returns-in_default-next n c =
     let a = c.args in
     let i = c.loop-key.invariant in
     let t = turn _ _ i.0 i.1 c.in-Some.ensures.steps c.in-Ok.is in
-    let e = value-missing a.levels a.s.bytes.now _ (omega (arith, t.end, c.in_default-next.ensures.steps.0)) in
+    let broken : (b : Broken) × (c.in_default-next.field-0 ≡ Err b) = search rules in
+    let u = stop _ _ t.bytes t.end (given_as _ _ c.in_default-next.is c.next-in-Some.ensures.steps) broken.1 in
+    let e = value-broken a.levels a.s.bytes.now _ u.is in
     entries-fail i.2 t.before (beside-bad a.levels a.s.bytes.now _ t.is t.before (sym c.is_text.ensures ∙ c.if-not-is_text.false) (rw (← t.next) e))
 
-pub entries-returns-in_default-item : goal.entries-returns-in_default-item
-entries-returns-in_default-item n c =
+pub entries-returns-in_default-next-2 : goal.entries-returns-in_default-next-2
+entries-returns-in_default-next-2 n c =
     let a = c.args in
     let i = c.loop-key.invariant in
     let t = turn _ _ i.0 i.1 c.in-Some.ensures.steps c.in-Ok.is in
-    let u = stop _ _ t.bytes t.end c.in-Some-next.ensures.steps c.in_default-item.is in
-    let e = value-broken a.levels a.s.bytes.now _ u.is in
+    let e = value-missing a.levels a.s.bytes.now _ (omega (arith, t.end, (given_as _ _ c.in_default-next.is c.next-in-Some.ensures.steps).0)) in
     entries-fail i.2 t.before (beside-bad a.levels a.s.bytes.now _ t.is t.before (sym c.is_text.ensures ∙ c.if-not-is_text.false) (rw (← t.next) e))
 
 pub entries-returns-then-not-value : goal.entries-returns-then-not-value
@@ -70,7 +80,7 @@ entries-returns-then-not-value n c =
     let a = c.args in
     let i = c.loop-key.invariant in
     let t = turn _ _ i.0 i.1 c.in-Some.ensures.steps c.in-Ok.is in
-    let u = turn _ _ t.bytes t.end c.in-Some-next.ensures.steps c.in-Ok-item.is in
+    let u = turn _ _ t.bytes t.end (given_as _ _ c.in-Some-Ok.is c.next-in-Some.ensures.steps) c.in-Some-Ok.field-0-is in
     let e = value-bad a.levels a.s.bytes.now _ u.is (lent _ _ c.slice.ensures c.value.ensures c.if-not-value.true) in
     entries-fail i.2 t.before (beside-bad a.levels a.s.bytes.now _ t.is t.before (sym c.is_text.ensures ∙ c.if-not-is_text.false) (rw (← t.next) e))
 
@@ -79,7 +89,7 @@ entries-loop-key-preserved n c =
     let a = c.args in
     let i = c.loop-key.invariant in
     let t = turn _ _ i.0 i.1 c.in-Some.ensures.steps c.in-Ok.is in
-    let u = turn _ _ t.bytes t.end c.in-Some-next.ensures.steps c.in-Ok-item.is in
+    let u = turn _ _ t.bytes t.end (given_as _ _ c.in-Some-Ok.is c.next-in-Some.ensures.steps) c.in-Some-Ok.field-0-is in
     let r = value-read a.levels a.s.bytes.now _ u.is (lent _ _ c.slice.ensures c.value.ensures c.if-not-value.false) in
     let o = entry-read a.levels a.s.bytes.now _ t.is t.before (sym c.is_text.ensures ∙ c.if-not-is_text.false) (rw (← t.next) r) in
     (u.bytes, u.end, rw u.next (entries_next i.2 t.before o))
@@ -125,10 +135,10 @@ items-returns n c =
 -- ---- values
 
 pub value-returns-in_default : goal.value-returns-in_default
-value-returns-in_default n c = sym (no_kind c.args.levels c.args.kind c.args.content.bytes.now (unnamed (subst (NamesKind c.args.kind) c.in_default.is c.try_from.ensures)))
-
-pub value-returns-in_default-kind : goal.value-returns-in_default-kind
-value-returns-in_default-kind n c =
+value-returns-in_default n c =
     let a = c.args in
-    let d = c.in_default-kind in
-    sym (no_kind a.levels a.kind a.content.bytes.now (omega (arith, c.in-Ok.ensures, of-records c.in-Ok.kind d.not-Null d.not-Bool d.not-Int d.not-Str d.not-Seq d.not-Map)))
+    let is : a.kind ≡ number_of c.in_default.field-0 = subst (NamesKind a.kind) c.in_default.is c.try_from.ensures in
+    sym (no_kind a.levels a.kind a.content.bytes.now (omega (arith, is, of-records c.in_default.field-0 (search rules) (search rules) (search rules) (search rules) (search rules) (search rules))))
+
+pub value-returns-in_default-2 : goal.value-returns-in_default-2
+value-returns-in_default-2 n c = sym (no_kind c.args.levels c.args.kind c.args.content.bytes.now (unnamed (subst (NamesKind c.args.kind) c.in_default.is c.try_from.ensures)))

@@ -1,7 +1,6 @@
 use Rattle.std.proofs.Common.{rules, arith, ◌≡◌, ℕ, ◌-◌, ◌/◌, ◌^◌, ◌≤◌, Bor, List, Bool, true, length, take, drop, sym, ap, ◌∙◌, subst, bit_and}
 use Rattle.std.proofs.lemmas.Bool.{false≢true}
 use Rattle.item.specs.Tree.{Entries, has_key}
-use Rattle.item.specs.Encode.{encode}
 use Rattle.entries.specs.Entries.{Lies}
 use Rattle.entries.specs.Contract.{hash_of, Has, Marked, of_class}
 use Rattle.entries.specs.declared.Pair.{Pair}
@@ -34,7 +33,7 @@ module _ {s : List ℕ} {from to at : ℕ} {seen : List ℕ} {es : Entries} {p :
 -- the exact search
 sought : {whole part : Bor (List ℕ)} {start end from until at to : ℕ} {f : List ℕ → Bool} {seen : List ℕ} {es : Entries} {p : Pair} (w : Passed whole.now from until f es at seen) (t : Turn whole.now at until w.rest p) {b : Bool} → to ≡ at
     → (from ≤ to → to ≤ length whole.now → Cut whole part start end from to)
-    → ((fs : Entries) → take (end - start) (drop start part.now) ≡ encode fs → b ≡ has_key (take (p.end - p.start) (drop p.start whole.now)) fs) → b ≡ has_key t.entry.k w.front
+    → ((fs : Entries) → Lies part.now start end fs → b ≡ has_key (take (p.end - p.start) (drop p.start whole.now)) fs) → b ≡ has_key t.entry.k w.front
 sought {whole = whole} {from = from} w t n g e =
     let before = subst (λ (i : ℕ). Lies whole.now from i w.front) (sym n) w.before in
     has_in _ (g (omega (arith, n, w.before.ends)) (omega (arith, n, w.before.ends, w.before.stands.within))) before e ∙ ap (λ (k : List ℕ). has_key k w.front) t.key_is

@@ -1,6 +1,6 @@
 use Rattle.std.proofs.Common.{rules, arith, ◌≡◌, ◌-◌, ℕ, List, take, drop, length, sym, ap, ◌∙◌, subst, Bor, Bool, ◌≤◌}
 use Rattle.item.specs.Tree.{Entries, has_key}
-use Rattle.item.specs.Encode.{encode}
+use Rattle.entries.specs.Entries.{Lies}
 use Rattle.entries.specs.Contract.{LeftOver}
 use Rattle.entries.specs.declared.Pair.{Pair}
 use Rattle.entries.proofs.Walking.{Turn, turn, no-entry, step, stop, Cut, cut, has_in}
@@ -9,7 +9,7 @@ use Rattle.entries.proofs.filter.few_repeat.Goals as goal
 
 -- an entry's key, looked for behind it
 sought : {whole part : Bor (List ℕ)} {start end at to : ℕ} {es : Entries} {p : Pair} (t : Turn whole.now at to es p) {b : Bool} → (p.next ≤ to → to ≤ length whole.now → Cut whole part start end p.next to)
-    → ((fs : Entries) → take (end - start) (drop start part.now) ≡ encode fs → b ≡ has_key (take (p.end - p.start) (drop p.start whole.now)) fs) → b ≡ has_key t.entry.k t.entry.others
+    → ((fs : Entries) → Lies part.now start end fs → b ≡ has_key (take (p.end - p.start) (drop p.start whole.now)) fs) → b ≡ has_key t.entry.k t.entry.others
 sought t g e =
     has_in _ (g (omega (arith, t.behind.ends)) (omega (arith, t.behind.ends, t.behind.stands.within))) t.behind e ∙ ap (λ (k : List ℕ). has_key k t.entry.others) t.key_is
 

@@ -39,12 +39,6 @@ returns-in_default-place_of-clause-agrees_chunk c = λ es h.
     let w = i.6 es h in
     chunked-twice w (turn w.rest (search rules) t.before t.is w.lies) (rw i.2 at (subst (Located _ _ _ _) c.in_default-place_of.is c.place_of.ensures))
 
-pub insert-requires-clause-inside : goal.insert-requires-clause-inside
-insert-requires-clause-inside c =
-    let i = c.loop-pair.invariant in
-    let t = step _ _ i.0 i.1 c.in-Some.ensures.steps c.in-Ok.is in
-    rw i.2 (record { order = t.places.key; fits = omega (arith, t.places.value, t.places.inside) })
-
 pub insert-requires-clause-gap : goal.insert-requires-clause-gap
 insert-requires-clause-gap c = index-free _ c.loop-pair.invariant.2 c.place_of.ensures c.in-Err.is
 

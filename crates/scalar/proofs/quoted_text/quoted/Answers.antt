@@ -1,6 +1,6 @@
 -- A header, and the string behind it, are the item. Assumes nothing.
 use Rattle.std.proofs.Common.{refl, sym, ap, ◌∙◌, arith}
-use Rattle.std.proofs.lemmas.Result.{err_from_is_err_and}
+use Rattle.refusal.proofs.Tools.{err_is}
 use Rattle.item.proofs.Size.{item-length}
 use Rattle.writer.specs.Writing.{cap_of}
 use Rattle.writer.proofs.Laws.{appends_item, header_used, len_appended, keeps_same}
@@ -13,8 +13,7 @@ pub returns-in_err-span : goal.returns-in_err-span
 returns-in_err-span c =
     let a = c.args in
     let w = a.writer.now in
-    λ role. let p = err_from_is_err_and c.from_residual.result c.from_residual.ensures.1 in
-    rw (p.1, p.2) (record {
+    λ role. rw (err_is _ c.from_residual.ensures.1) (record {
       is = ap (string (cap_of w) a.line role w.used) (c.in_err-span.ensures (cap_of w)) ∙ string-refused (cap_of w) a.line role w.used _;
       keeps = keeps_same refl;
     })
@@ -27,8 +26,7 @@ returns-in_err-reserve c =
     let a = c.args in
     let w = a.writer.now in
     let k = c.in_ok-span.ensures (cap_of w) in
-    λ role. let p = err_from_is_err_and c.from_residual-in_err-reserve.result c.from_residual-in_err-reserve.ensures.1 in
-    rw (p.1, p.2) (refused_string role (quoted_of a.quote (cap_of w) a.line) a.s.now w w a.line a.i _ _ k _
+    λ role. rw (err_is _ c.from_residual-in_err-reserve.ensures.1) (refused_string role (quoted_of a.quote (cap_of w) a.line) a.s.now w w a.line a.i _ _ k _
     (record { is = c.in_err-reserve.ensures.1; short = omega (arith, c.in_err-reserve.ensures.0, k.long, item-length 3 k.content); same = refl }))
 
 pub put_content-requires-clause-in_range : goal.put_content-requires-clause-in_range

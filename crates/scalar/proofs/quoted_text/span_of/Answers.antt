@@ -1,5 +1,5 @@
 use Rattle.std.proofs.Common.{subst, arith}
-use Rattle.std.proofs.lemmas.Result.{err_from_is_err_and}
+use Rattle.refusal.proofs.Tools.{err_is}
 use Rattle.std.specs.Prelude.{Ok}
 use Rattle.scalar.specs.Contract.{quoted_of}
 use Rattle.scalar.specs.Code.{ReadsPiece}
@@ -41,5 +41,4 @@ pub returns-in_err-next : goal.returns-in_err-next
 returns-in_err-next c =
     let l = c.loop-next in
     let a = c.args in
-    λ cap. let p = err_from_is_err_and c.from_residual.result c.from_residual.ensures.1 in
-    rw (p.1, p.2) (passed-refused cap a.string.line (quoted_of a.string.quote cap a.string.line) a.string.s.now a.string.from l.place l.size (l.invariant.2 cap) _ (c.in_err-next.ensures cap))
+    λ cap. rw (err_is _ c.from_residual.ensures.1) (passed-refused cap a.string.line (quoted_of a.string.quote cap a.string.line) a.string.s.now a.string.from l.place l.size (l.invariant.2 cap) _ (c.in_err-next.ensures cap))

@@ -1,17 +1,18 @@
-use Rattle.std.proofs.Common.{◌≡◌, refl, sym, ap, ◌∙◌, arith, ℕ, ◌+◌, ◌-◌, length, take, drop, replicate, length-drop, length-take-le}
+use Rattle.std.proofs.Common.{◌≡◌, refl, sym, ap, arith, ℕ, ◌+◌, ◌-◌, ◌≤◌, length, take, drop, replicate, length-drop, length-take-le}
 use Rattle.std.proofs.Math.ListN.{length-replicate}
-use Rattle.writer.proofs.Laws.{part_filled}
+use Rattle.item.proofs.Parts.{put_part}
 use Rattle.writer.proofs.Writer.fill.Goals as goal
 
 pub returns : goal.returns
 returns c =
     let a = c.args in
     let w = a.self.now in
-    let n = length-drop w.used w.out.now in
-    let k : ℕ = w.used + a.count - w.used in
-    let l : length (take k (drop w.used w.out.now)) ≡ a.count = length-take-le k (drop w.used w.out.now) (omega (arith, n, c.requires, w.within)) ∙ omega arith in
+    let room : w.used + a.count ≤ length w.out.now = omega (arith, c.requires, w.within) in
+    let many : w.used + a.count - w.used ≡ a.count = omega arith in
+    let part : length (take a.count (drop w.used w.out.now)) ≡ a.count = length-take-le a.count _ (omega (arith, length-drop w.used w.out.now)) in
+    let filled : c.fill.new.self ≡ replicate a.count a.byte = rw (many, part) at (c.fill.ensures.after (λ y e. e)) in
     record {
       same_reference = refl;
-      out = part_filled w.out.now c.fill.new.self w.used a.count a.byte (omega (arith, c.requires, w.within)) (c.fill.ensures.after (λ y e. e) ∙ ap (λ (m : ℕ). replicate m a.byte) l);
+      out = rw (many, filled) (put_part w.out.now (replicate a.count a.byte) w.used a.count (sym (length-replicate a.count a.byte)) room);
       used = ap (λ (m : ℕ). w.used + m) (sym (length-replicate a.count a.byte));
     }

@@ -1,28 +1,29 @@
 -- The kinds of items, one by one. Assumes nothing.
-use Rattle.std.proofs.Common.{sym, ◌∙◌, arith}
-use Rattle.std.proofs.lemmas.Bool.{eqb-true}
-use Rattle.nodes.proofs.Texts.{bool_short, int_short, bool_is, str_is, nothing_told, other_kind}
-use Rattle.nodes.proofs.node.Node.scalar.Goals.{else-is_bool-via-then-is_bool+else-from-to, else-is_bool-via-else-is_bool}
+use Rattle.std.proofs.Common.{◌≡◌, ◌∙◌, ap, arith}
+use Rattle.item.specs.Kinds.{number_of}
+use Rattle.nodes.proofs.Texts.{bool_short, int_short, bool_is, str_is, nothing_told, no_kind, other_told}
+use Rattle.nodes.proofs.node.Node.scalar.Goals.{in_default-kind-via-in-Bool+else-from-to, in_default-kind-via-in_default-kind}
 use Rattle.nodes.proofs.node.Node.scalar.Goals as goal
 
-pub returns-then-from-to-clause-short : goal.returns-then-from-to-clause-short
-returns-then-from-to-clause-short c = bool_short _
+pub returns-in_default-clause-value : goal.returns-in_default-clause-value
+returns-in_default-clause-value c = λ y i. no_kind y i.item_is c.in_default.ensures
 
-pub returns-then-from-to-clause-value : goal.returns-then-from-to-clause-value
-returns-then-from-to-clause-value c = λ y i. bool_is y (eqb-true _ _ (sym c.is-is_bool.ensures ∙ c.if-is_bool.true)) i.item_is
+pub returns-in-Bool-clause-short : goal.returns-in-Bool-clause-short
+returns-in-Bool-clause-short c = bool_short _
 
-pub returns-in-Some-clause-short : goal.returns-in-Some-clause-short
-returns-in-Some-clause-short c = int_short _
+pub returns-in-Bool-clause-value : goal.returns-in-Bool-clause-value
+returns-in-Bool-clause-value c = λ y i. bool_is y (c.in-Ok.ensures ∙ ap number_of c.in-Bool.is) i.item_is
 
-pub returns-then-is_string-clause-value : goal.returns-then-is_string-clause-value
-returns-then-is_string-clause-value c = λ y i. str_is y (eqb-true _ _ (sym c.is-is_string.ensures ∙ c.if-is_string.true)) i.item_is
+pub returns-in_ok-integer-in-Int-clause-short : goal.returns-in_ok-integer-in-Int-clause-short
+returns-in_ok-integer-in-Int-clause-short c = int_short _
 
-pub returns-clause-value : goal.returns-clause-value
-returns-clause-value c = λ y i.
-    nothing_told y i.item_is
-    (λ k. elim c.else-is_bool.branch [
-      | else-is_bool-via-then-is_bool+else-from-to w ↦ omega (arith, w.if-from-to.false)
-      | else-is_bool-via-else-is_bool w ↦ absurd (other_kind _ _ c.is-is_bool.ensures w.if-is_bool.false k)
-    ])
-    (c.in_default.ensures y i)
-    (other_kind _ _ c.is-is_string.ensures c.if-is_string.false)
+pub returns-in-Str-clause-value : goal.returns-in-Str-clause-value
+returns-in-Str-clause-value c = λ y i. str_is y (c.in-Ok.ensures ∙ ap number_of c.in-Str.is) i.item_is
+
+pub returns-in_default-kind-clause-value : goal.returns-in_default-kind-clause-value
+returns-in_default-kind-clause-value c = λ y i. elim c.in_default-kind.branch [
+  | in_default-kind-via-in-Bool+else-from-to w ↦
+      let k : c.args.self.item.kind ≡ 1 = c.in-Ok.ensures ∙ ap number_of w.in-Bool.is in
+      nothing_told y i.item_is (λ q. w.if-from-to.false) (λ q. omega (arith, k, q)) (λ q. omega (arith, k, q))
+  | in_default-kind-via-in_default-kind w ↦ let d = w.in_default-kind in other_told _ y i.item_is c.in-Ok.ensures d.not-Bool d.not-Int d.not-Str
+]
