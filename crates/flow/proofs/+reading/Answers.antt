@@ -4,7 +4,7 @@ use Rattle.refusal.proofs.Tools.{err_is}
 use Rattle.writer.specs.Writing.{cap_of}
 use Rattle.scalar.specs.Contract.{is_in_flow}
 use Rattle.flow.proofs.Invariants.{listed_at, list_open, list-stuck, list_stops, list_less, listed_next, mapped_at, map-open, map_stops, mapped_next, mapping_twice, mapping_done, lies_in_written}
-use Rattle.flow.proofs.Values.{reads_as, value-end, value-double, value-single, value-plain, value_null, place_read, place_refused, entry_ends_so}
+use Rattle.flow.proofs.Values.{reads_as, value-end, value-double, value-single, value-plain, entry_ends_so}
 use Rattle.flow.proofs.+reading.Goals as goal
 
 -- ---- entries
@@ -107,17 +107,3 @@ value-returns-in_default t c =
     let w = a.writer.now in
     reads_as a.role _ _ a.s.now w _ _ (value-plain a.s.now a.i (cap_of w) a.site.line a.site.levels (is_in_flow a.stops) a.role w.used (omega (arith, c.if-i-s.false))
     (search rules) (search rules) (search rules) (search rules)) (c.plain.ensures a.site.line)
-
--- ---- the value of an entry
-
-pub entry_value-returns-in_err-null : goal.entry_value-returns-in_err-null
-entry_value-returns-in_err-null t c =
-    let a = c.args in
-    let w = a.writer.now in
-    place_refused _ _ a.s.now w _ _ _ c.from_residual.ensures.1 (value_null a.s.now a.i (cap_of w) a.site.line a.site.levels w.used (omega (arith, c.if-i-s.true)) (sym c.leaves_out.ensures ∙ c.if-leaves_out.true)) (c.in_err-null.ensures a.site.line)
-
-pub entry_value-returns-then-leaves_out : goal.entry_value-returns-then-leaves_out
-entry_value-returns-then-leaves_out t c =
-    let a = c.args in
-    let w = a.writer.now in
-    place_read _ _ a.s.now w _ _ _ (value_null a.s.now a.i (cap_of w) a.site.line a.site.levels w.used (omega (arith, c.if-i-s.true)) (sym c.leaves_out.ensures ∙ c.if-leaves_out.true)) (c.in_ok-null.ensures a.site.line)

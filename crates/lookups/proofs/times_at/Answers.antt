@@ -1,9 +1,8 @@
 -- No integer, or the times that the integer is. Assumes nothing.
-use Rattle.std.proofs.Common.{◌≡◌, sym, ap, subst, ◌∙◌}
+use Rattle.std.proofs.Common.{◌≡◌, subst}
 use Rattle.refusal.proofs.Tools.{err_is}
 use Rattle.refusal.specs.declared.Refusal.TheVariants.{TimesNotPositive}
 use Rattle.nodes.specs.Contract.{AgreesInteger}
-use Rattle.lookups.specs.Lookups.{times_in}
 use Rattle.lookups.proofs.Values.{integer_there, other_times}
 use Rattle.lookups.proofs.times_at.Goals as goal
 
@@ -12,8 +11,3 @@ returns-in_err-n c = λ v g st.
     let o = c.in_err-n.ensures in
     let r : c.in_err-n.field-0.0 ≡ TimesNotPositive c.args.number = cc (rw o.ok_part at o.value) in
     rw (err_is _ c.from_residual.ensures.1, r) (other_times c.args.number v (subst (AgreesInteger v) o.ok_part (integer_there v _ _ (c.at.ensures.value v g st) c.and_then-n.ensures)))
-
-pub returns : goal.returns
-returns c = λ v g st.
-    let i = subst (AgreesInteger v) c.in_ok-n.ensures.ok_part (integer_there v _ _ (c.at.ensures.value v g st) c.and_then-n.ensures) in
-    c.times_of.ensures ∙ ap (times_in c.args.number) (sym i)

@@ -5,9 +5,6 @@ use Rattle.step.specs.Contract.{StandsAs}
 use Rattle.step.proofs.Steps.{step-32}
 use Rattle.step.proofs.read_step.Goals as goal
 
-pub returns-in_default-clause-step : goal.returns-in_default-clause-step
-returns-in_default-clause-step c = λ y i. absurd (subst (StandsAs y) c.in_default.is i)
-
 pub returns-in_default-mapping-clause-step : goal.returns-in_default-mapping-clause-step
 returns-in_default-mapping-clause-step c = λ y i. step-32 _ _ y (c.in_default-mapping.ensures.entries y (subst (StandsAs y) c.in-Some.is i))
 

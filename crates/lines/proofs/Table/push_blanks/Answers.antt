@@ -1,15 +1,10 @@
 -- Each row is the first of the blank lines that still wait. Assumes nothing.
-use Rattle.std.proofs.Common.{rules, ◌-◌, ◌≡◌, arith}
+use Rattle.std.proofs.Common.{◌-◌, ◌≡◌, arith}
 use Rattle.std.specs.Prelude.{Ok, Err}
 use Rattle.refusal.proofs.Tools.{err_is}
 use Rattle.lines.specs.Lines.{blanks_before}
 use Rattle.lines.proofs.TableLaws.{takes-blank}
 use Rattle.lines.proofs.Table.push_blanks.Goals as goal
-
-pub loop-number-init : goal.loop-number-init
-loop-number-init c = λ es.
-    let e : c.args.line.number - (c.args.line.number - c.args.waiting) ≡ c.args.waiting = omega arith in
-    rw e (search rules)
 
 pub loop-number-preserved : goal.loop-number-preserved
 loop-number-preserved c =
