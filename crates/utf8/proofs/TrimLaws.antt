@@ -1,4 +1,4 @@
--- White space added to a text is trimmed again, and what is trimmed at the end has no more to trim there. Assumes nothing.
+-- White space added to a text is trimmed again, and what is trimmed has no more to trim. Assumes nothing.
 use Rattle.std.specs.Prelude.{if◌then◌else◌}
 use Rattle.std.proofs.Common.{◌≡◌, refl, sym, ap, ◌∙◌, List, [], ◌∷◌, ◌++◌, append_assoc, append-nil, Bool, true, false, ℕ, zero, suc, ◌≤◌, ◌<◌, arith, length, drop, replicate, take-append-drop}
 use Rattle.std.proofs.Math.Bool.{false≢true}
@@ -7,7 +7,7 @@ use Rattle.std.proofs.Math.Seq.{drop-length}
 use Rattle.refusal.specs.Base.{maybe, empty}
 use Rattle.utf8.specs.Utf8.{within}
 use Rattle.utf8.specs.White.{white1, white2, white_at, white_len, leading_from, leading, trim_start, all_white, trim_end, trim}
-use Rattle.utf8.proofs.Laws.{white_from, white-fits, white-apart, white-first, from-full, end-apart, is_white, end_take, end_empty, first-none, empty-nil}
+use Rattle.utf8.proofs.Laws.{white_from, white-fits, white-apart, white-first, from-full, end-apart, is_white, end_take, end_empty, first-none, empty-nil, leading-none}
 
 -- behind a text
 
@@ -104,7 +104,7 @@ unfolding trim_start leading leading_from maybe
 start-white [] s h e = absurd (omega arith)
 start-white (b ∷ w) s h e = rw (white-longer b w s (length w) (is_white b w e)) (start-behind w s)
 
--- the end trimmed twice
+-- trimmed twice
 
 -- what is cut off at the end is all white
 end_rest : (s : List ℕ) → all_white (drop (length (trim_end s)) s) ≡ true
@@ -146,3 +146,42 @@ end-end (b ∷ s) = go (all_white (b ∷ s)) (all_white (b ∷ trim_end s)) refl
     go false true p q r =
         absurd (false≢true (sym p ∙ sym (ap (λ (t : List ℕ). all_white (b ∷ t)) (end-split s)) ∙ all_join (b ∷ trim_end s) (drop (length (trim_end s)) s) q (end_rest s)))
     go false false p q r = rw (q, r)
+
+-- what is trimmed at the start begins with no white space
+start_none : (k : ℕ) (s : List ℕ) → white_len (drop (leading_from k s) s) ≡ 0
+unfolding white_len leading_from maybe
+start_none k [] = refl
+start_none (suc k) (b ∷ s) = start_none k s
+start_none zero (b ∷ s) = go (white_at b s) refl (λ k. start_none k s)
+  where
+    go : (o : Option ℕ) → white_at b s ≡ o → ((k : ℕ) → white_len (drop (leading_from k s) s) ≡ 0) → white_len (drop (maybe o 0 (λ k. suc (leading_from k s))) (b ∷ s)) ≡ 0
+    go none e f = rw e
+    go (some k) e f = f k
+
+-- nor does it without its end
+end-none-first : (s : List ℕ) → white_len s ≡ 0 → white_len (trim_end s) ≡ 0
+unfolding white_len trim_end maybe
+end-none-first [] e = refl
+end-none-first (b ∷ s) e = go (all_white (b ∷ s))
+  where
+    at : (o : Option ℕ) → white_at b (trim_end s) ≡ o → maybe o 0 suc ≡ 0
+    at none q = refl
+    at (some k) q =
+        let p : white_at b s ≡ some k = ap (white_at b) (sym (end-split s)) ∙ white-longer b (trim_end s) (drop (length (trim_end s)) s) k q in
+        sym (ap (λ (o : Option ℕ). maybe o 0 suc) p) ∙ e
+
+    go : (x : Bool) → white_len (if x then [] else b ∷ trim_end s) ≡ 0
+    go true = refl
+    go false = at (white_at b (trim_end s)) refl
+
+start-same : (s : List ℕ) → white_len s ≡ 0 → trim_start s ≡ s
+unfolding trim_start
+start-same s e = rw (leading-none s e)
+
+pub start-start : (s : List ℕ) → trim_start (trim_start s) ≡ trim_start s
+unfolding leading trim_start
+start-start s = start-same (trim_start s) (start_none 0 s)
+
+pub trim-trim : (s : List ℕ) → trim (trim s) ≡ trim s
+unfolding trim trim_start leading
+trim-trim s = ap trim_end (start-same (trim_end (trim_start s)) (end-none-first (trim_start s) (start_none 0 s))) ∙ end-end (trim_start s)

@@ -1,7 +1,7 @@
 -- Where UTF-8 can be cut and joined: laws for proofs of code that takes parts of a text. Assumes nothing.
 use Rattle.std.specs.Str.{IsAscii}
 use Rattle.std.specs.Prelude.{if◌then◌else◌}
-use Rattle.std.proofs.Common.{◌≡◌, refl, sym, ap, ◌∙◌, List, [], ◌∷◌, ◌++◌, Bool, true, false, ◌&&◌, ◌||◌, ℕ, zero, suc, ◌≤◌, ◌<◌, arith, leb, ltb, eqb, length, get_or, take, drop, replicate, drop_of_length-le, drop-cons, take_all, leb-true, ltb-true, ltb-false, eqb-true}
+use Rattle.std.proofs.Common.{◌≡◌, refl, sym, ap, ◌∙◌, List, [], ◌∷◌, ◌++◌, Bool, true, false, ◌&&◌, ◌||◌, ℕ, zero, suc, ◌+◌, ◌-◌, ◌≤◌, ◌<◌, arith, leb, ltb, eqb, length, get_or, take, drop, replicate, length-drop, drop_of_length-le, drop-cons, get_or-drop, take_all, leb-true, ltb-true, ltb-false, eqb-true}
 use Rattle.std.proofs.lemmas.Bool.{false≢true, and_parts}
 use Rattle.std.proofs.Math.Option.{Option, none, some}
 use Rattle.std.proofs.Math.Seq.{split_at}
@@ -9,6 +9,7 @@ use Rattle.refusal.specs.Base.{maybe, empty}
 use Rattle.utf8.specs.Utf8.{Range, Row, ◌‥◌, within, tail, table, behind_in, tails_of, utf8_from, is_utf8}
 use Rattle.utf8.proofs.Ranges.{if-one, inside}
 use Rattle.utf8.specs.White.{white1, white2, in2000, white3, white_at, leading_from, leading, trim_start, all_white, trim_end, trim}
+use Rattle.utf8.specs.Part.{part}
 use Rattle.utf8.proofs.Laws.{white-first, end-le, end_take}
 
 -- joined
@@ -110,6 +111,13 @@ utf8-split s k h n e = go (ltb k (length s)) refl
     go false p =
         let l : length s ≤ k = ltb-false k (length s) p in
         (ap is_utf8 (take_all k s l) ∙ e, ap is_utf8 (drop_of_length-le s l) ∙ utf8_nil)
+
+-- a part is UTF-8 that begins and ends where a character does
+pub utf8-part : (s : List ℕ) (a e : ℕ) → a ≤ e → e ≤ length s → (a < length s → Starts (get_or s a 0)) → (e < length s → Starts (get_or s e 0)) → is_utf8 s ≡ true → is_utf8 (part s a e) ≡ true
+utf8-part s a e h k n m u =
+    let l : length (drop a s) ≡ length s - a = length-drop a s in
+    let z : a + (e - a) ≡ e = omega arith in
+    (utf8-split (drop a s) (e - a) (omega arith) (λ p. rw (get_or-drop a s (e - a) 0, z) (m (omega arith))) (utf8-split s a (omega arith) n u).1).0
 
 -- trimmed
 

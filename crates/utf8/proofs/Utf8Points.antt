@@ -142,10 +142,15 @@ utf8_encode c s = go (leb c 0x7f) (leb c 0x7ff) (leb c 0xffff) refl refl refl
         rw (p, q, r) (three-bytes c s (omega arith) (omega arith))
     go false false false p q r = let h : 0xffff < c = leb-false c 0xffff r in rw (p, q, r) (four_bytes c s (omega arith))
 
--- code points, encoded one behind the other: such a text is UTF-8 by `utf8_encode`
+-- code points, encoded one behind the other
 pub data Coded : List ℕ → Type 0 where
   done : Coded []
   point : (c : ℕ) (s : List ℕ) → scalar c ≡ true → Coded s → Coded (encode c ++ s)
+
+pub coded-utf8 : {s : List ℕ} → Coded s → is_utf8 s ≡ true
+unfolding is_utf8 utf8_from
+coded-utf8 done = refl
+coded-utf8 (point c s e r) = utf8_encode c s ∙ rw e (coded-utf8 r)
 
 -- the code point of two, three and four bytes
 encode-two : (b d c : ℕ) (s : List ℕ) → c + 12416 ≡ b * 64 + d → 0xc2 ≤ b → b ≤ 0xdf → 0x80 ≤ d → d ≤ 0xbf → encode c ++ s ≡ b ∷ d ∷ s
