@@ -3,9 +3,9 @@
 
 usage: python3 tools/side_by_side.py OLD NEW   at the top of the repository
 
-Prints three tables, of the libraries alone: public functions with their clauses, public types and constants, and the definitions of specs/; then two lists
-of the lemmas of proofs/ that are gone from their crate under any spelling: those that stand in another crate now, and the others, the private ones of a
-module behind its public ones. Where only white space changed, a row is left out, as are crates whose functions are the same."""
+Prints four tables, of the libraries alone: public functions with their clauses, public types and constants, impls of traits with what they promise, and
+the definitions of specs/; then three lists of the lemmas of proofs/ that are gone from their crate under any spelling: those that stand in another crate
+now, the others, and those that were private to their module. A row is left out where only white space changed."""
 import re
 import subprocess
 import sys
@@ -47,11 +47,22 @@ def types(commit):
     rows = {}
     for crate, text in files(commit, r'crates/([^/]+)/src/.*\.rt'):
         text = re.sub(r'^\s*//.*\n', '', text, flags=re.M)
-        for m in re.finditer(r'^((?:#\[[^\n]*\]\n)*)pub ((?:struct|enum|trait) (\w+).*?(?:^\}|;)$|(?:const|type) (\w+)[^\n]*;|const (\w+)[^;]*;)', text, re.S | re.M):
+        for m in re.finditer(r'^((?:#\[[^\n]*\]\n)*)pub ((?:struct|enum|trait) (\w+)(?:[^\n]*;$|.*?^\}$)|(?:const|type) (\w+)[^\n]*;|const (\w+)[^;]*;)', text, re.S | re.M):
             rows[f'{crate} {m.group(3) or m.group(4) or m.group(5)}'] = flat(f'{m.group(1)}pub {m.group(2)}')
         for m in re.finditer(r'^impl(?:<[^\n{]*?>)? (\w+)[^\n{]*\{\n(.*?)^\}', text, re.S | re.M):
             for k in re.finditer(r'^    pub const (\w+).*?;$', m.group(2), re.S | re.M):
                 rows[f'{crate} {m.group(1)}::{k.group(1)}'] = flat(k.group(0))
+    return rows
+
+
+def impls(commit):
+    rows = {}
+    for crate, text in files(commit, r'crates/([^/]+)/src/.*\.rt'):
+        text = re.sub(r'^\s*//.*\n', '', text, flags=re.M)
+        for m in re.finditer(r'^impl(?:<[^\n{]*?>)? ([^\n{]*? for [^\n{]*?)\s*\{\n(.*?)^\}', text, re.S | re.M):
+            told = re.findall(r'^    ghost (?!use)[^\n]*;$|^    fn .*?(?= \{$|\n    \{$)', m.group(2), re.S | re.M)
+            if told:
+                rows[f'{crate} {flat(m.group(1))}'] = flat(' '.join(t if t.endswith(';') else t + ';' for t in told))
     return rows
 
 
@@ -142,5 +153,6 @@ if __name__ == '__main__':
     before, now = sys.argv[1:]
     table('Function', functions(before), functions(now))
     table('Type', types(before), types(now))
+    table('Impl', impls(before), impls(now))
     table('Definition', definitions(before), definitions(now))
     gone(lemmas(before), lemmas(now))

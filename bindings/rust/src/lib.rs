@@ -1,7 +1,7 @@
 //! The drum reader for Rust: safe functions over the static library of crate `drum_c`, whose functions are proved. The buffers are the
 //! caller's, nothing is kept between calls, and all may be called on several threads.
 //!
-//! `read` needs no buffers of the caller; the other functions allocate nothing.
+//! `read` needs no buffers of the caller, and `check_steps` makes the list of names; the other functions allocate nothing.
 
 use std::error::Error;
 use std::fmt;
