@@ -5,7 +5,7 @@
 mod written;
 
 use console::{Numbers, read_at_most};
-use item::{HEADER, Items, Kind, LIMIT};
+use item::{HEADER, Item, Items, Kind, LIMIT};
 use record::{RecordAnswer, check_record, part};
 use std::io;
 use std::io::{BufWriter, Write};
@@ -14,39 +14,51 @@ use written::{Name, Quoted, Value};
 // More levels than a record has.
 const DEEPEST: usize = 40;
 
-fn print_indent(out: &mut impl Write, deep: usize) -> io::Result<()> {
-    for _ in 0..deep {
+fn print_indent(out: &mut impl Write, depth: usize) -> io::Result<()> {
+    for _ in 0..depth {
         write!(out, "  ")?;
     }
     Ok(())
 }
 
-// The items that stand in one of this kind. In a mapping every second one is a key, and stands in the line of its value.
-fn print_items(out: &mut impl Write, holder: Kind, content: &[u8], deep: usize) -> io::Result<()> {
-    if deep >= DEEPEST {
+// What stands behind a name, and what is in it below, a level further in.
+#[cycle(levels)]
+fn print_value(out: &mut impl Write, bytes: &[u8], item: Item, depth: usize) -> io::Result<()> {
+    let Ok(kind) = Kind::try_from(item.kind) else {
         return Ok(());
+    };
+    let content = part(bytes, item.from, item.to);
+    writeln!(out, "{}", Value { kind, content })?;
+    match kind {
+        Kind::Null | Kind::Bool | Kind::Int | Kind::Str => Ok(()),
+        _ if depth >= DEEPEST => Ok(()),
+        Kind::Map => print_entries(out, content, depth + 1),
+        _ => print_items(out, kind, content, depth + 1),
     }
+}
+
+// Keys and values in turn; a key stands in the line of its value.
+#[cycle(levels)]
+fn print_entries(out: &mut impl Write, content: &[u8], depth: usize) -> io::Result<()> {
+    let mut walk = Items::new(content);
+    while let (Some(Ok(key)), Some(Ok(item))) = (walk.next(), walk.next()) {
+        print_indent(out, depth)?;
+        write!(out, "{}:", Quoted(part(content, key.from, key.to)))?;
+        print_value(out, content, item, depth)?;
+    }
+    Ok(())
+}
+
+// The items that stand in one of this kind, which is no mapping.
+#[cycle(levels)]
+fn print_items(out: &mut impl Write, holder: Kind, content: &[u8], depth: usize) -> io::Result<()> {
     for (before, item) in Items::new(content).enumerate() {
         let Ok(item) = item else {
             return Ok(());
         };
-        let Ok(kind) = Kind::try_from(item.kind) else {
-            return Ok(());
-        };
-        let content = part(content, item.from, item.to);
-        if holder == Kind::Map && before % 2 == 0 {
-            print_indent(out, deep)?;
-            write!(out, "{}:", Quoted(content))?;
-            continue;
-        }
-        if holder != Kind::Map {
-            print_indent(out, deep)?;
-            write!(out, "{}", Name { holder, before })?;
-        }
-        writeln!(out, "{}", Value { kind, content })?;
-        if !matches!(kind, Kind::Null | Kind::Bool | Kind::Int | Kind::Str) {
-            print_items(out, kind, content, deep + 1)?;
-        }
+        print_indent(out, depth)?;
+        write!(out, "{}", Name { holder, before })?;
+        print_value(out, content, item, depth)?;
     }
     Ok(())
 }

@@ -61,15 +61,15 @@ pub(crate) struct Quoted<'a>(pub(crate) &'a [u8]);
 impl fmt::Display for Quoted<'_> {
     fn fmt<W: fmt::Write>(&self, f: &mut fmt::Formatter<W>) -> fmt::Result {
         write!(f, "\"")?;
-        for c in text(self.0).chars() {
-            match c {
+        for character in text(self.0).chars() {
+            match character {
                 '\n' => write!(f, "\\n")?,
                 '\t' => write!(f, "\\t")?,
                 '\r' => write!(f, "\\r")?,
                 '"' => write!(f, "\\\"")?,
                 '\\' => write!(f, "\\\\")?,
-                '\0'..' ' | '\x7f' => write!(f, "\\x{:02x}", c as u32)?,
-                _ => write!(f, "{c}")?,
+                '\0'..' ' | '\x7f' => write!(f, "\\x{:02x}", character as u32)?,
+                _ => write!(f, "{character}")?,
             }
         }
         write!(f, "\"")
@@ -78,10 +78,9 @@ impl fmt::Display for Quoted<'_> {
 
 // The two's complement of eight bytes, the lowest first.
 fn integer(content: &[u8]) -> i64 {
-    match content.first_chunk() {
-        Some(bytes) => i64::from_le_bytes(*bytes),
-        None => 0,
-    }
+    content
+        .first_chunk()
+        .map_or(0, |bytes| i64::from_le_bytes(*bytes))
 }
 
 // What stands behind the name: a scalar, or of what holds items only whether it is empty.

@@ -8,9 +8,9 @@ use std::io;
 use std::io::Write;
 
 // What stands around the item must stay.
-fn print_int(out: &mut impl Write, n: Integer) -> io::Result<()> {
+fn print_int(out: &mut impl Write, integer: Integer) -> io::Result<()> {
     let mut bytes = [7u8; 16];
-    item::put_int(&mut bytes, 1, n);
+    item::put_int(&mut bytes, 1, integer);
     writeln!(out, "{}", Hex(&bytes))
 }
 
@@ -21,14 +21,15 @@ fn print_small(out: &mut impl Write, value: bool) -> io::Result<()> {
     writeln!(out, "{}", Hex(&bytes))
 }
 
-fn print_string(out: &mut impl Write, s: &[u8]) -> io::Result<()>
-    requires { length s.now ≤ 9 }
+fn print_string(out: &mut impl Write, text: &[u8]) -> io::Result<()>
+    requires { length text.now ≤ 9 }
 {
     let mut bytes = [7u8; 16];
-    item::put_string(&mut bytes, 1, s);
+    item::put_string(&mut bytes, 1, text);
     writeln!(out, "{}", Hex(&bytes))
 }
 
+// Tries std's `fill` alone, which clears what is lent to a refused reading; only the stored output holds it.
 fn print_zeros(out: &mut impl Write, from: usize, to: usize) -> io::Result<()>
     requires { (from ≤ to) × (to ≤ 4) }
 {
@@ -48,11 +49,11 @@ fn print_integers(out: &mut impl Write) -> io::Result<()> {
         (true, 9223372036854775807),
         (true, 9223372036854775808),
     ] {
-        let n = Integer {
+        let integer = Integer {
             negative,
             magnitude,
         };
-        print_int(out, n)?;
+        print_int(out, integer)?;
     }
     Ok(())
 }
@@ -68,8 +69,8 @@ pub(crate) fn print_items(out: &mut impl Write) -> io::Result<()> {
     print_zeros(out, 4, 4)
 }
 
-pub(crate) fn print_header(out: &mut impl Write, s: &[u8], at: usize) -> io::Result<()> {
-    match item::header_at(s, at) {
+pub(crate) fn print_header(out: &mut impl Write, text: &[u8], at: usize) -> io::Result<()> {
+    match item::header_at(text, at) {
         Ok(Item { kind, from, to }) => write!(out, "item {kind} {from} {to}"),
         Err(Broken::Cut) => write!(out, "cut"),
         Err(Broken::PastEnd) => write!(out, "past end"),

@@ -26,14 +26,14 @@ fn print_answer(
 ) -> io::Result<()> {
     match answer {
         PairAnswer::Paired {
-            pairs: p,
-            lone_hammers: h,
-            lone_sounds: s,
+            pairs: paired,
+            lone_hammers: hammers,
+            lone_sounds: sounds,
         } => {
-            write!(out, "ok {p} {h} {s}")?;
-            print_list(out, pairs, p.saturating_mul(2))?;
-            print_list(out, lone_hammers, h)?;
-            print_list(out, lone_sounds, s)
+            write!(out, "ok {paired} {hammers} {sounds}")?;
+            print_list(out, pairs, paired.saturating_mul(2))?;
+            print_list(out, lone_hammers, hammers)?;
+            print_list(out, lone_sounds, sounds)
         }
         PairAnswer::Refused(e) => {
             write!(out, "refused {}", Numbers(e))?;

@@ -8,8 +8,8 @@ pub(crate) struct Hex<'a>(pub(crate) &'a [u8]);
 
 impl fmt::Display for Hex<'_> {
     fn fmt<W: fmt::Write>(&self, f: &mut fmt::Formatter<W>) -> fmt::Result {
-        for b in self.0 {
-            write!(f, "{b:02x}")?;
+        for byte in self.0 {
+            write!(f, "{byte:02x}")?;
         }
         Ok(())
     }
@@ -21,8 +21,8 @@ pub(crate) struct Spaced<'a>(pub(crate) &'a [u32]);
 
 impl fmt::Display for Spaced<'_> {
     fn fmt<W: fmt::Write>(&self, f: &mut fmt::Formatter<W>) -> fmt::Result {
-        for n in self.0 {
-            write!(f, " {n}")?;
+        for number in self.0 {
+            write!(f, " {number}")?;
         }
         Ok(())
     }
@@ -33,6 +33,11 @@ pub(crate) fn front<T>(lent: &[T], count: usize) -> &[T] {
     lent.get(..count).unwrap_or(lent)
 }
 
+pub(crate) fn front_mut<T>(lent: &mut [T], count: usize) -> &mut [T] {
+    let count = count.min(lent.len());
+    &mut lent[..count]
+}
+
 // A mark, where something that was lent is not as it must be: the same value from this place on.
 pub(crate) fn mark_others<T: Copy + PartialEq>(
     out: &mut impl Write,
@@ -40,10 +45,11 @@ pub(crate) fn mark_others<T: Copy + PartialEq>(
     from: usize,
     value: T,
 ) -> io::Result<()> {
-    if let Some(rest) = lent.get(from..) {
-        if !rest.iter().all(|&x| x == value) {
-            write!(out, " other")?;
-        }
+    if lent
+        .get(from..)
+        .is_some_and(|rest| rest.iter().any(|&x| x != value))
+    {
+        write!(out, " other")?;
     }
     Ok(())
 }

@@ -1,5 +1,5 @@
 // What is read of a scenario.
-use crate::print::{Hex, Spaced, front, mark_others};
+use crate::print::{Hex, Spaced, front, front_mut, mark_others};
 use crate::section::{Room, Shown};
 use console::{Lent, Numbers};
 use scenario::{ScenarioAnswer, read_scenario};
@@ -64,12 +64,9 @@ pub(crate) fn print_scenario(
     shown: Shown,
     lent: &mut Lent,
 ) -> io::Result<()> {
-    let bytes = room.work.min(lent.work.len());
-    let size = room.record.min(lent.record.len());
-    let places = room.lines.min(lent.lines.len());
-    let work = &mut lent.work[..bytes];
-    let record = &mut lent.record[..size];
-    let lines = &mut lent.lines[..places];
+    let work = front_mut(&mut lent.work, room.work);
+    let record = front_mut(&mut lent.record, room.record);
+    let lines = front_mut(&mut lent.lines, room.lines);
     work.fill(7);
     record.fill(7);
     lines.fill(7);

@@ -12,7 +12,7 @@ pub(crate) struct Room {
 }
 
 // What is printed of a scenario that is read.
-#[derive(Clone, Copy, PartialEq, Eq)]
+#[derive(Clone, Copy)]
 pub(crate) enum Shown {
     // The record, and the lines of the steps.
     Record,
@@ -68,11 +68,11 @@ pub(crate) enum Section {
 }
 
 // Of all places the largest number stands for the last one that there can be.
-fn place(n: u32) -> usize {
-    if n == u32::MAX {
+fn place(number: u32) -> usize {
+    if number == u32::MAX {
         usize::MAX
     } else {
-        n as usize
+        number as usize
     }
 }
 

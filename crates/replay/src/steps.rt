@@ -13,7 +13,7 @@ use std::io::{Read, Write};
 
 fn print_times(out: &mut impl Write, bytes: &[u8], number: usize) -> io::Result<()> {
     match lookups::times(bytes, number) {
-        TimesAnswer::Times(n) => write!(out, " {n}"),
+        TimesAnswer::Times(times) => write!(out, " {times}"),
         TimesAnswer::Refused(e) => {
             let Told { number, line, step } = e.told();
             write!(out, " !{number}/{line}/{step}")

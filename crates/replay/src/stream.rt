@@ -4,12 +4,12 @@ use std::io::{ErrorKind, Read};
 
 // More than the texts of a section, and than the sections.
 pub(crate) const MANY: usize = 100000000;
+
 // The number at a place of a text, or 0 where fewer bytes are left.
 pub(crate) fn number_at(text: &[u8], at: usize) -> u32 {
-    match text.get(at..).and_then(|rest| rest.first_chunk()) {
-        Some(bytes) => u32::from_le_bytes(*bytes),
-        None => 0,
-    }
+    text.get(at..)
+        .and_then(|rest| rest.first_chunk())
+        .map_or(0, |bytes| u32::from_le_bytes(*bytes))
 }
 
 // As many numbers as there are places, from a place of a text on. Where fewer bytes are left, the other places stay.

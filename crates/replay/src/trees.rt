@@ -29,13 +29,13 @@ fn print_size(out: &mut impl Write, lent: usize, answer: TreeAnswer) -> io::Resu
 
 pub(crate) fn print_least(out: &mut impl Write, text: &[u8]) -> io::Result<()> {
     let mut work = [7u8; 1024];
-    for n in 0..work.len() {
-        let answer = read_tree(text, &mut work[..n]);
+    for size in 0..work.len() {
+        let answer = read_tree(text, &mut work[..size]);
         if matches!(answer, TreeAnswer::Refused(_)) {
-            mark_others(out, &work[..n], 0, 0)?;
+            mark_others(out, &work[..size], 0, 0)?;
         }
         if !matches!(answer, TreeAnswer::Refused(Refusal::WorkTooShort)) {
-            return print_size(out, n, answer);
+            return print_size(out, size, answer);
         }
     }
     Ok(())

@@ -11,25 +11,25 @@ use writer::Writer;
 
 fn print_key(out: &mut impl Write, found: Found) -> io::Result<()> {
     match found {
-        Found::At(i) => write!(out, "{i} "),
+        Found::At(place) => write!(out, "{place} "),
         Found::Nothing => write!(out, "none "),
     }
 }
 
 // How many bytes the value is written as.
-fn read_value(s: &[u8], written: &mut [u8; LONGEST]) -> Result<usize, Refusal> {
+fn read_value(line: &[u8], written: &mut [u8; LONGEST]) -> Result<usize, Refusal> {
     let mut writer = Writer::new(written);
-    flow::flow(s, 32, Role::AsValue, 1, &mut writer)?;
+    flow::flow(line, 32, Role::AsValue, 1, &mut writer)?;
     Ok(writer.used())
 }
 
-pub(crate) fn print_line(out: &mut impl Write, s: &[u8]) -> io::Result<()> {
-    if s.len() > LONGEST {
+pub(crate) fn print_line(out: &mut impl Write, line: &[u8]) -> io::Result<()> {
+    if line.len() > LONGEST {
         return Ok(());
     }
     let mut written = [7u8; LONGEST];
-    print_key(out, scalar::key_end(s))?;
-    match read_value(s, &mut written) {
+    print_key(out, scalar::key_end(line))?;
+    match read_value(line, &mut written) {
         Ok(used) => {
             write!(out, "ok")?;
             print_written(out, &written, used)

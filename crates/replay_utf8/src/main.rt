@@ -47,36 +47,41 @@ struct Encoded {
     ghost fits: { len ≤ 4 },
 }
 
-fn low(n: u32) -> u8 {
-    (n % 256) as u8
+fn low(number: u32) -> u8 {
+    (number % 256) as u8
 }
 
-fn tail(c: u32) -> u8 {
-    low(0x80 + c % 64)
+fn tail(code_point: u32) -> u8 {
+    low(0x80 + code_point % 64)
 }
 
 impl Encoded {
     // By the bit layout of RFC 3629, section 3, surrogates and numbers above 10FFFF too.
-    fn of(c: u32) -> Encoded {
-        match c {
+    fn of(code_point: u32) -> Encoded {
+        match code_point {
             0..=0x7f => Encoded {
-                bytes: [low(c), 0, 0, 0],
+                bytes: [low(code_point), 0, 0, 0],
                 len: 1,
             },
             0x80..=0x7ff => Encoded {
-                bytes: [low(0xc0 + c / 64), tail(c), 0, 0],
+                bytes: [low(0xc0 + code_point / 64), tail(code_point), 0, 0],
                 len: 2,
             },
             0x800..=0xffff => Encoded {
-                bytes: [low(0xe0 + c / 4096), tail(c / 64), tail(c), 0],
+                bytes: [
+                    low(0xe0 + code_point / 4096),
+                    tail(code_point / 64),
+                    tail(code_point),
+                    0,
+                ],
                 len: 3,
             },
             _ => Encoded {
                 bytes: [
-                    low(0xf0 + c / 262144 % 8),
-                    tail(c / 4096),
-                    tail(c / 64),
-                    tail(c),
+                    low(0xf0 + code_point / 262144 % 8),
+                    tail(code_point / 4096),
+                    tail(code_point / 64),
+                    tail(code_point),
                 ],
                 len: 4,
             },
@@ -94,56 +99,61 @@ fn is_white(bytes: &[u8]) -> bool {
 
 // Prints where the answers change. How many code points are accepted.
 fn print_runs(rt: &impl Print) -> io::Result<u32> {
-    let mut was = false;
-    let mut n = 0;
-    for c in 0..TOP {
-        let is = utf8::is_utf8(Encoded::of(c).as_bytes());
-        if is && !was {
-            println!(rt; "accepted from {c:04x}")?;
+    let mut accepted = 0;
+    let mut before = false;
+    for code_point in 0..TOP {
+        let now = utf8::is_utf8(Encoded::of(code_point).as_bytes());
+        if now && !before {
+            println!(rt; "accepted from {code_point:04x}")?;
         }
-        if was && !is {
-            println!(rt; "refused from {c:04x}")?;
+        if before && !now {
+            println!(rt; "refused from {code_point:04x}")?;
         }
-        was = is;
-        n += u32::from(is);
+        accepted += u32::from(now);
+        before = now;
     }
-    Ok(n)
+    Ok(accepted)
 }
 
 fn print_whites(rt: &impl Print) -> io::Result<()> {
-    for c in (0..TOP).filter(|&c| is_white(Encoded::of(c).as_bytes())) {
-        println!(rt; "white {c:04x}")?;
+    for code_point in (0..TOP).filter(|&code_point| is_white(Encoded::of(code_point).as_bytes())) {
+        println!(rt; "white {code_point:04x}")?;
     }
     Ok(())
 }
 
-fn edge(k: usize) -> u8 {
-    EDGES[k % EDGES.len()]
+fn edge(number: usize) -> u8 {
+    EDGES[number % EDGES.len()]
 }
 
-// Whether the sequence of `len` boundary bytes is accepted whose number is `k`, the first byte counting fastest.
-fn edges_accepted(k: usize, len: usize) -> bool
+// Whether the sequence of `len` boundary bytes is accepted that has this number, the first byte counting fastest.
+fn edges_accepted(number: usize, len: usize) -> bool
     requires { len ≤ 4 }
 {
-    let bytes = [edge(k), edge(k / 24), edge(k / 576), edge(k / 13824)];
+    let bytes = [
+        edge(number),
+        edge(number / SEQUENCES[1]),
+        edge(number / SEQUENCES[2]),
+        edge(number / SEQUENCES[3]),
+    ];
     utf8::is_utf8(&bytes[..len])
 }
 
-fn mix(hash: u32, n: u32) -> u32 {
-    hash.wrapping_mul(31).wrapping_add(n)
+fn mix(hash: u32, answer: u32) -> u32 {
+    hash.wrapping_mul(31).wrapping_add(answer)
 }
 
 fn print_edges(rt: &impl Print, len: usize, total: usize) -> io::Result<()>
     requires { len ≤ 4 }
 {
-    let mut n = 0;
+    let mut accepted = 0;
     let mut hash = 0;
-    for k in 0..total {
-        let is = edges_accepted(k, len);
-        n += usize::from(is);
-        hash = mix(hash, u32::from(is));
+    for number in 0..total {
+        let answer = edges_accepted(number, len);
+        accepted += usize::from(answer);
+        hash = mix(hash, u32::from(answer));
     }
-    println!(rt; "sequences of boundary bytes accepted {n}")?;
+    println!(rt; "sequences of boundary bytes accepted {accepted}")?;
     println!(rt; "hash {hash}")
 }
 
@@ -160,22 +170,29 @@ fn places(bytes: &[u8], from: usize, to: usize) -> u32
 }
 
 // Every part of the bytes, also one that cuts a character off.
-fn hash_parts(bytes: &[u8; 16], hash: u32) -> u32 {
-    let mut h = hash;
+fn hash_parts(bytes: &[u8; 16], mut hash: u32) -> u32 {
     for from in 0..=16 {
         for to in 0..=16 {
-            h = mix(h, places(bytes, from, to));
+            hash = mix(hash, places(bytes, from, to));
         }
     }
-    h
+    hash
+}
+
+fn piece(number: usize) -> &'static [u8] {
+    PIECES[number % PIECES.len()]
 }
 
 // Three pieces in a row, by the number of the sequence, and zeros behind them.
-fn pieces(k: usize) -> [u8; 16] {
+fn pieces(number: usize) -> [u8; 16] {
     let mut bytes = [0; 16];
-    let three = [PIECES[k % 17], PIECES[k / 17 % 17], PIECES[k / 289 % 17]];
-    for (place, &b) in bytes.iter_mut().zip(three.iter().copied().flatten()) {
-        *place = b;
+    let three = [
+        piece(number),
+        piece(number / PIECES.len()),
+        piece(number / PIECES.len().pow(2)),
+    ];
+    for (place, &byte) in bytes.iter_mut().zip(three.iter().copied().flatten()) {
+        *place = byte;
     }
     bytes
 }
@@ -186,6 +203,7 @@ fn main(rt: HostRuntime) -> io::Result<()> {
     for (len, &total) in SEQUENCES.iter().enumerate() {
         print_edges(&rt, len, total)?;
     }
-    let hash = (0..4913).fold(0, |hash, k| hash_parts(&pieces(k), hash));
+    let sequences = PIECES.len().pow(3);
+    let hash = (0..sequences).fold(0, |hash, number| hash_parts(&pieces(number), hash));
     println!(rt; "trims, hash {hash}")
 }
