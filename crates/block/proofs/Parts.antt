@@ -112,24 +112,6 @@ pub behind_long : (t : List ℕ) → 3 ≤ length t → Value ≡ behind_of t
 unfolding behind_of bytes
 behind_long t h = rw (not-empty t (omega arith), same_length t (bytes "|") (λ e. omega arith), same_length t (bytes "|-") (λ e. omega arith))
 
--- ---- null
-
-pub null-full : (old : Writer) (ls : List Line) → room_of old < 6 → Refuses (leaf (cap_of old) old.used null ls) old old WorkTooShort
-unfolding leaf cost charge ◌>>=◌
-null-full old ls h = record { is = rw (lt-leb (old.used + 6) (cap_of old) (omega arith)); keeps = keeps_same refl }
-
-pub null-done : (old new : Writer) (i : ℕ) (ls : List Line) → i ≤ length ls → Appends old new (encode null) → WroteBlock (leaf (cap_of old) old.used null (drop i ls)) ls i old new i
-unfolding leaf cost charge ◌>>=◌
-null-done old new i ls h p =
-    let u : new.used ≡ old.used + 6 = omega (arith, p.used, encode-size null) in
-    record {
-      tree = null;
-      is = rw (le-leb (old.used + 6) (cap_of old) (omega (arith, u, new.within, len_appended p)), u);
-      appends = p;
-      on = omega arith;
-      within = h;
-    }
-
 -- ---- one value of a line
 
 pub line_refused : (t : List ℕ) (n levels : ℕ) (old new : Writer) (z : Refusal) → Refuses (flow (cap_of old) n levels AsValue old.used t) old new z
@@ -213,8 +195,6 @@ pub ruleset openings = (opens_dash, opens_key, opens_flow)
 pub ruleset dashes = (dash_end, dash_on)
 
 pub ruleset keys = (key_none, key_elsewhere, key_read)
-
-pub ruleset nulls = (null-full, null-done)
 
 pub ruleset line_values = (line_refused, line-done)
 

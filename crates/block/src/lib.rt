@@ -7,12 +7,10 @@
 
 ghost use Rattle.std.specs.Prelude.{◌≡◌, ◌+◌, ◌≤◌, ◌<◌, suc, length, drop};
 ghost use Rattle.std.proofs.Math.Option.{some};
-ghost use Rattle.item.specs.Tree as items;
 ghost use Rattle.writer.specs.Writing.{cap_of};
 ghost use Rattle.utf8.specs.White.{trim, trim_start};
 ghost use Rattle.lines.specs.Table.{line_at};
 ghost use Rattle.scalar.specs.Code.{found_of};
-ghost use Rattle.literal.specs.Literal as literals;
 ghost use Rattle.literal.specs.Contract.{ReadsLines, ReadsPart};
 ghost use Rattle.block.specs.Block as definition;
 ghost use Rattle.block.specs.Block.{starts_complex, line_value, block_key, value_behind, entry_at, entries_of, block_map, inline_map};
@@ -99,15 +97,6 @@ fn behind_colon(t: &[u8]) -> Behind
     }
 }
 
-#[tactic(auto, using(crate::proofs::Parts::nulls))]
-fn null(i: usize, writer: &mut Writer<'_>) -> Result<usize, Refusal>
-    ensures { ReadsPart (literals.leaf (cap_of writer.old) writer.old.used items.null) i writer.old writer.new result }
-{
-    writer.reserve(HEADER)?;
-    writer.null();
-    Ok(i)
-}
-
 // A part of a line that is one value; the lines from `i` on are left.
 #[tactic(auto, using(crate::proofs::Parts::line_values))]
 fn line_value(
@@ -157,13 +146,11 @@ fn child(
     ensures { ReadsLines (definition.child (cap_of writer.old) (within (cap_of writer.old) levels) indent writer.old.used)
         lines.now i writer.old writer.new result }
 {
-    if i == lines.len() {
-        return null(i, writer);
-    }
-    if lines.indent(i) > indent {
+    if i < lines.len() && lines.indent(i) > indent {
         return block(lines, i, levels, writer);
     }
-    null(i, writer)
+    writer.null()?;
+    Ok(i)
 }
 
 // The value of the entry that begins at `at`.
@@ -469,7 +456,8 @@ pub fn block(
     ensures { ReadsLines (definition.block (cap_of writer.old) levels writer.old.used) lines.now i writer.old writer.new result }
 {
     if i == lines.len() {
-        return null(i, writer);
+        writer.null()?;
+        return Ok(i);
     }
     let text = lines.text(i);
     let indent = lines.indent(i);

@@ -9,7 +9,7 @@ ghost use Rattle.scalar.specs.Contract.{quoted_of, ReadsValue};
 ghost use Rattle.scalar.specs.Code.{escape_of, ReadsPiece, Spans};
 
 use super::{Parsed, Quote};
-use item::{HEADER, Kind};
+use item::Kind;
 use refusal::Refusal;
 use writer::Writer;
 
@@ -189,8 +189,7 @@ pub fn quoted(
         line,
     };
     let span = span_of(string)?;
-    writer.reserve(HEADER + span.size)?;
-    writer.header(Kind::Str, span.size);
+    writer.header(Kind::Str, span.size)?;
     put_content(string, span, writer);
     Ok(Parsed {
         next: span.next,
