@@ -210,10 +210,7 @@ fn key_at(lines: &Lines<'_>, i: usize, indent: usize) -> Found
     requires { i ≤ length lines.now }
     ensures { result ≡ found_of (key_here indent (drop i lines.now)) }
 {
-    if i == lines.len() {
-        return Found::Nothing;
-    }
-    if lines.indent(i) != indent {
+    if i == lines.len() || lines.indent(i) != indent {
         return Found::Nothing;
     }
     key_end(lines.text(i))
