@@ -105,15 +105,9 @@ fn put_scalar(said: Said<'_>, role: Role, writer: &mut Writer<'_>) -> Result<(),
 
 /// A null that nobody wrote, before the place `next`. In a key's place it takes no bytes.
 #[tactic(auto, using(crate::proofs::Laws::scalars), unfolding(crate::specs::Contract::is_key))]
-pub fn null_at(
-    s: &[u8],
-    next: usize,
-    role: Role,
-    writer: &mut Writer<'_>,
-) -> Result<Parsed, Refusal>
-    requires in_range { next ≤ length s.now }
-    ensures { (line : ℕ) → ReadsValue role (scalar (cap_of writer.old) line role writer.old.used null (drop next s.now))
-        s.now writer.old writer.new result }
+pub fn null_at(next: usize, role: Role, writer: &mut Writer<'_>) -> Result<Parsed, Refusal>
+    ensures { (line : ℕ) (s : List ℕ) → next ≤ length s → ReadsValue role (scalar (cap_of writer.old) line role writer.old.used null (drop next s))
+        s writer.old writer.new result }
 {
     put_scalar(Said::Null, role, writer)?;
     Ok(Parsed { next, key: false })
