@@ -22,11 +22,11 @@ pub enum Chomping {
     Strip,
 }
 
-/// The body of a literal: the first line behind it, and how many bytes its lines give.
-#[derive(Clone, Copy, Debug, PartialEq, Eq)]
-pub struct Body {
-    pub next: usize,
-    pub len: usize,
+// The body of a literal: the first line behind it, and how many bytes its lines give.
+#[derive(Clone, Copy)]
+struct Body {
+    next: usize,
+    len: usize,
 }
 
 // The spaces before a text of `size` bytes that stands `deeper` than the literal's first line. A blank line has none, whatever
