@@ -1,22 +1,19 @@
 -- What the small readers of blocks come to, by the places of the code. Assumes nothing.
-use Rattle.std.proofs.Common.{◌≡◌, refl, sym, ap, ◌∙◌, ℕ, suc, ◌+◌, ◌≤◌, ◌<◌, arith, List, [], ◌∷◌, Bool, true, false, length, drop, eq-eqb, ne_eqb, le-leb}
+use Rattle.std.proofs.Common.{◌≡◌, refl, sym, ap, ◌∙◌, ℕ, suc, ◌+◌, ◌≤◌, ◌<◌, arith, List, [], ◌∷◌, Bool, true, false, length, drop, eq-eqb, ne_eqb}
 use Rattle.std.proofs.Math.Option.{Option, none, some, some-injective}
-use Rattle.std.proofs.lemmas.Bool.{lt-leb}
 use Rattle.refusal.specs.Base.{Answer, ◌>>=◌, ◌>>◌, ensure, given, maybe, bytes, empty}
 use Rattle.refusal.proofs.Tools.{chosen, present}
 use Rattle.refusal.specs.declared.Refusal.{Refusal}
-use Rattle.refusal.specs.declared.Refusal.TheVariants.{EmptyKey, ComplexKey, KeyNotScalar, WorkTooShort}
+use Rattle.refusal.specs.declared.Refusal.TheVariants.{EmptyKey, ComplexKey, KeyNotScalar}
 use Rattle.utf8.specs.Part.{part}
 use Rattle.utf8.specs.White.{leading, trim_start}
 use Rattle.utf8.proofs.Laws.{part-drop, start-part, start-le}
 use Rattle.item.proofs.Same.{same_length}
 use Rattle.item.proofs.Exact.{none≢}
-use Rattle.item.specs.Tree.{Yaml, null}
-use Rattle.item.specs.Encode.{encode}
-use Rattle.item.proofs.Size.{encode-size}
+use Rattle.item.specs.Tree.{Yaml}
 use Rattle.writer.specs.declared.Writer.{Writer}
-use Rattle.writer.specs.Writing.{cap_of, room_of, Appends}
-use Rattle.writer.proofs.Laws.{len_appended, keeps_appended, keeps_same}
+use Rattle.writer.specs.Writing.{cap_of}
+use Rattle.writer.proofs.Laws.{keeps_appended, keeps_same}
 use Rattle.lines.specs.Lines.{Line}
 use Rattle.lines.specs.Table.{line_at}
 use Rattle.lines.specs.Dash.{dashed, is_dash}
@@ -24,13 +21,11 @@ use Rattle.lines.proofs.Rows.{lines_end, lines_next}
 use Rattle.scalar.specs.declared.Role.TheVariants.{AsValue, AsKey}
 use Rattle.item.specs.declared.Found.TheVariants.{At, Nothing as NotFound}
 use Rattle.scalar.specs.Key.{quote_after, depth_after, qualifies, key_end_from, key_end}
-use Rattle.scalar.specs.Read.{cost, charge}
 use Rattle.scalar.specs.Contract.{written, Refuses}
 use Rattle.scalar.specs.Code.{found_of}
 use Rattle.flow.specs.Flow.{flow}
 use Rattle.flow.specs.Contract.{WroteWhole}
 use Rattle.flow.proofs.Values.{Named, named, unnamed}
-use Rattle.literal.specs.Literal.{leaf}
 use Rattle.literal.specs.Contract.{WroteBlock}
 use Rattle.block.specs.declared.Opening.TheVariants.{Dash, Key, Flow}
 use Rattle.block.specs.declared.Behind.TheVariants.{Value}

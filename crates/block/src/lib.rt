@@ -28,11 +28,11 @@ use scalar::{Role, key_end};
 use utf8::{trim_start, trimmed};
 use writer::Writer;
 
-/// An entry: the first line that is left, and where the key's item ends.
-#[derive(Clone, Copy, Debug, PartialEq, Eq)]
-pub struct EntryRead {
-    pub next: usize,
-    pub key_end: usize,
+// An entry: the first line that is left, and where the key's item ends.
+#[derive(Clone, Copy)]
+struct EntryRead {
+    next: usize,
+    key_end: usize,
 }
 
 // Where an entry begins: its line, its place in that line's text, and how far behind that its colon stands. That they lie in the lines is
@@ -45,20 +45,19 @@ struct EntryStart {
     split: usize,
 }
 
-/// What a line begins with: a dash, a key that ends at a place, or neither, so that it is one flow value.
-#[derive(Clone, Copy, Debug, PartialEq, Eq)]
-pub enum Opening {
+// What a line begins with: a dash, a key that ends at a place, or neither, so that it is one flow value.
+#[derive(Clone, Copy)]
+enum Opening {
     Dash,
     Key(usize),
     Flow,
 }
 
-/// What stands behind a key's colon.
-#[derive(Clone, Copy, Debug, PartialEq, Eq)]
-pub enum Behind {
+// What stands behind a key's colon.
+#[derive(Clone, Copy)]
+enum Behind {
     Nothing,
-    Literal,
-    Stripped,
+    Literal(Chomping),
     Value,
 }
 
@@ -91,8 +90,8 @@ fn behind_colon(t: &[u8]) -> Behind
 {
     match t {
         b"" => Behind::Nothing,
-        b"|" => Behind::Literal,
-        b"|-" => Behind::Stripped,
+        b"|" => Behind::Literal(Chomping::Clip),
+        b"|-" => Behind::Literal(Chomping::Strip),
         _ => Behind::Value,
     }
 }
@@ -175,8 +174,7 @@ fn entry_value(
     let indent = lines.indent(at.line) + at.from;
     match behind_colon(behind) {
         Behind::Nothing => child(lines, at.line + 1, indent, levels, writer),
-        Behind::Literal => literal(lines, at.line + 1, indent, Chomping::Clip, writer),
-        Behind::Stripped => literal(lines, at.line + 1, indent, Chomping::Strip, writer),
+        Behind::Literal(chomping) => literal(lines, at.line + 1, indent, chomping, writer),
         Behind::Value => line_value(behind, at.line + 1, levels, lines.number(at.line), writer),
     }
 }
