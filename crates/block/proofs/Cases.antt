@@ -13,11 +13,13 @@ use Rattle.scalar.specs.Key.{key_end}
 use Rattle.scalar.specs.Read.{charge}
 use Rattle.scalar.specs.Contract.{Refuses}
 use Rattle.literal.specs.Literal.{Read, leaf, literal}
-use Rattle.literal.specs.Contract.{WroteBlock, AgreesBlock}
+use Rattle.literal.specs.declared.Chomping.{Chomping}
+use Rattle.literal.specs.declared.Chomping.TheVariants.{Clip, Strip}
+use Rattle.literal.specs.Contract.{strips, WroteBlock, AgreesBlock}
 use Rattle.block.specs.declared.Opening.{Opening}
 use Rattle.block.specs.declared.Opening.TheVariants.{Dash, Key, Flow}
 use Rattle.block.specs.declared.Behind.{Behind}
-use Rattle.block.specs.declared.Behind.TheVariants.{Nothing, Literal, Stripped, Value}
+use Rattle.block.specs.declared.Behind.TheVariants.{Nothing, Literal, Value}
 use Rattle.block.specs.Block.{Inside, line_value, child, block_key, value_behind, entry_at, entries_of, block_map, inline_map, item_behind, block_seq, block_of, inline_of, inside_of, within, block}
 use Rattle.block.specs.Contract.{opening_of, behind_of, WroteEntry}
 
@@ -139,8 +141,7 @@ module _ (cap levels indent sum : ℕ) (ls : List Line) where
 module _ (cap levels n indent sum : ℕ) (t : List ℕ) (ls : List Line) where
   by_kind : Behind → Read Yaml
   by_kind Nothing = child cap (within cap levels) indent sum ls
-  by_kind Literal = literal cap false indent sum ls
-  by_kind Stripped = literal cap true indent sum ls
+  by_kind (Literal chomping) = literal cap (strips chomping) indent sum ls
   by_kind Value = line_value cap levels n sum t ls
 
   by_kind_lem : value_behind cap (within cap levels) n indent sum t ls ≡ by_kind (behind_of t)
@@ -149,7 +150,7 @@ module _ (cap levels n indent sum : ℕ) (t : List ℕ) (ls : List Line) where
     where
       go : (a b c : Bool)
           → (if a then child cap (within cap levels) indent sum ls else if b then literal cap false indent sum ls else if c then literal cap true indent sum ls else line_value cap levels n sum t ls)
-          ≡ by_kind (if a then Nothing else if b then Literal else if c then Stripped else Value)
+          ≡ by_kind (if a then Nothing else if b then Literal Clip else if c then Literal Strip else Value)
       go true b c = refl
       go false true c = refl
       go false false true = refl
@@ -159,13 +160,9 @@ module _ (cap levels n indent sum : ℕ) (t : List ℕ) (ls : List Line) where
   unfolding by_kind
   value-nothing e = by_kind_lem ∙ ap by_kind e
 
-  pub value-literal : behind_of t ≡ Literal → value_behind cap (within cap levels) n indent sum t ls ≡ literal cap false indent sum ls
+  pub value-literal : (c : Chomping) → behind_of t ≡ Literal c → value_behind cap (within cap levels) n indent sum t ls ≡ literal cap (strips c) indent sum ls
   unfolding by_kind
-  value-literal e = by_kind_lem ∙ ap by_kind e
-
-  pub value-stripped : behind_of t ≡ Stripped → value_behind cap (within cap levels) n indent sum t ls ≡ literal cap true indent sum ls
-  unfolding by_kind
-  value-stripped e = by_kind_lem ∙ ap by_kind e
+  value-literal c e = by_kind_lem ∙ ap by_kind e
 
   pub value_line : behind_of t ≡ Value → value_behind cap (within cap levels) n indent sum t ls ≡ line_value cap levels n sum t ls
   unfolding by_kind

@@ -1,22 +1,19 @@
 -- What the small readers of blocks come to, by the places of the code. Assumes nothing.
-use Rattle.std.proofs.Common.{◌≡◌, refl, sym, ap, ◌∙◌, ℕ, suc, ◌+◌, ◌≤◌, ◌<◌, arith, List, [], ◌∷◌, Bool, true, false, length, drop, eq-eqb, ne_eqb, le-leb}
+use Rattle.std.proofs.Common.{◌≡◌, refl, sym, ap, ◌∙◌, ℕ, suc, ◌+◌, ◌≤◌, ◌<◌, arith, List, [], ◌∷◌, Bool, true, false, length, drop, eq-eqb, ne_eqb}
 use Rattle.std.proofs.Math.Option.{Option, none, some, some-injective}
-use Rattle.std.proofs.lemmas.Bool.{lt-leb}
 use Rattle.refusal.specs.Base.{Answer, ◌>>=◌, ◌>>◌, ensure, given, maybe, bytes, empty}
 use Rattle.refusal.proofs.Tools.{chosen, present}
 use Rattle.refusal.specs.declared.Refusal.{Refusal}
-use Rattle.refusal.specs.declared.Refusal.TheVariants.{EmptyKey, ComplexKey, KeyNotScalar, WorkTooShort}
+use Rattle.refusal.specs.declared.Refusal.TheVariants.{EmptyKey, ComplexKey, KeyNotScalar}
 use Rattle.utf8.specs.Part.{part}
 use Rattle.utf8.specs.White.{leading, trim_start}
 use Rattle.utf8.proofs.Laws.{part-drop, start-part, start-le}
 use Rattle.item.proofs.Same.{same_length}
 use Rattle.item.proofs.Exact.{none≢}
-use Rattle.item.specs.Tree.{Yaml, null}
-use Rattle.item.specs.Encode.{encode}
-use Rattle.item.proofs.Size.{encode-size}
+use Rattle.item.specs.Tree.{Yaml}
 use Rattle.writer.specs.declared.Writer.{Writer}
-use Rattle.writer.specs.Writing.{cap_of, room_of, Appends}
-use Rattle.writer.proofs.Laws.{len_appended, keeps_appended, keeps_same}
+use Rattle.writer.specs.Writing.{cap_of}
+use Rattle.writer.proofs.Laws.{keeps_appended, keeps_same}
 use Rattle.lines.specs.Lines.{Line}
 use Rattle.lines.specs.Table.{line_at}
 use Rattle.lines.specs.Dash.{dashed, is_dash}
@@ -24,13 +21,11 @@ use Rattle.lines.proofs.Rows.{lines_end, lines_next}
 use Rattle.scalar.specs.declared.Role.TheVariants.{AsValue, AsKey}
 use Rattle.item.specs.declared.Found.TheVariants.{At, Nothing as NotFound}
 use Rattle.scalar.specs.Key.{quote_after, depth_after, qualifies, key_end_from, key_end}
-use Rattle.scalar.specs.Read.{cost, charge}
 use Rattle.scalar.specs.Contract.{written, Refuses}
 use Rattle.scalar.specs.Code.{found_of}
 use Rattle.flow.specs.Flow.{flow}
 use Rattle.flow.specs.Contract.{WroteWhole}
 use Rattle.flow.proofs.Values.{Named, named, unnamed}
-use Rattle.literal.specs.Literal.{leaf}
 use Rattle.literal.specs.Contract.{WroteBlock}
 use Rattle.block.specs.declared.Opening.TheVariants.{Dash, Key, Flow}
 use Rattle.block.specs.declared.Behind.TheVariants.{Value}
@@ -111,24 +106,6 @@ not-empty (b ∷ t) h = refl
 pub behind_long : (t : List ℕ) → 3 ≤ length t → Value ≡ behind_of t
 unfolding behind_of bytes
 behind_long t h = rw (not-empty t (omega arith), same_length t (bytes "|") (λ e. omega arith), same_length t (bytes "|-") (λ e. omega arith))
-
--- ---- null
-
-pub null-full : (old : Writer) (ls : List Line) → room_of old < 6 → Refuses (leaf (cap_of old) old.used null ls) old old WorkTooShort
-unfolding leaf cost charge ◌>>=◌
-null-full old ls h = record { is = rw (lt-leb (old.used + 6) (cap_of old) (omega arith)); keeps = keeps_same refl }
-
-pub null-done : (old new : Writer) (i : ℕ) (ls : List Line) → i ≤ length ls → Appends old new (encode null) → WroteBlock (leaf (cap_of old) old.used null (drop i ls)) ls i old new i
-unfolding leaf cost charge ◌>>=◌
-null-done old new i ls h p =
-    let u : new.used ≡ old.used + 6 = omega (arith, p.used, encode-size null) in
-    record {
-      tree = null;
-      is = rw (le-leb (old.used + 6) (cap_of old) (omega (arith, u, new.within, len_appended p)), u);
-      appends = p;
-      on = omega arith;
-      within = h;
-    }
 
 -- ---- one value of a line
 
@@ -213,8 +190,6 @@ pub ruleset openings = (opens_dash, opens_key, opens_flow)
 pub ruleset dashes = (dash_end, dash_on)
 
 pub ruleset keys = (key_none, key_elsewhere, key_read)
-
-pub ruleset nulls = (null-full, null-done)
 
 pub ruleset line_values = (line_refused, line-done)
 

@@ -1,5 +1,5 @@
 -- The definitions at a line, by the numbers that the code reads there. Assumes nothing.
-use Rattle.std.proofs.Common.{◌≡◌, refl, sym, ap, ◌∙◌, ℕ, suc, ◌+◌, ◌-◌, ◌≤◌, ◌<◌, add-one, arith, List, [], ◌∷◌, true, false, eqb, length, take, drop, length-drop, take_all, eqb-true}
+use Rattle.std.proofs.Common.{◌≡◌, refl, sym, ap, ◌∙◌, ℕ, suc, ◌+◌, ◌-◌, ◌≤◌, ◌<◌, add-one, arith, List, [], ◌∷◌, true, eqb, length, take, drop, length-drop, take_all, eqb-true}
 use Rattle.std.proofs.lemmas.Bool.{false≢true, and_parts}
 use Rattle.std.proofs.Math.Option.{none, some}
 use Rattle.refusal.specs.Base.{Answer, refused}
@@ -23,14 +23,15 @@ use Rattle.lines.proofs.Rows.{lines_end, lines_next}
 use Rattle.scalar.specs.Key.{key_end}
 use Rattle.scalar.specs.Contract.{Refuses}
 use Rattle.literal.specs.Literal.{Read, leaf, literal}
-use Rattle.literal.specs.Contract.{WroteBlock}
+use Rattle.literal.specs.declared.Chomping.{Chomping}
+use Rattle.literal.specs.Contract.{strips, WroteBlock}
 use Rattle.block.specs.declared.Opening.TheVariants.{Dash, Key, Flow}
 use Rattle.block.specs.declared.Behind.{Behind}
-use Rattle.block.specs.declared.Behind.TheVariants.{Nothing, Literal, Stripped, Value}
+use Rattle.block.specs.declared.Behind.TheVariants.{Nothing, Literal, Value}
 use Rattle.block.specs.Block.{key_at, line_value, child, block_key, value_behind, entry_at, block_map, inline_map, item_behind, block_seq, within, block}
 use Rattle.block.specs.Contract.{opening_of, behind_of, key_here, dash_here, column_at, text_at, WroteKey, WroteEntry}
 use Rattle.block.proofs.Parts.{key-end-within, key-opened, key-on, trim-start-part, dash-from-le}
-use Rattle.block.proofs.Cases.{block-line, sequence-deep, block-sequence, mapping-deep, block-mapping, child-deeper, child-none, value-nothing, value-literal, value-stripped, value_line, entry-unkeyed, entry-unvalued, entry_whole, item-child, item-line, item-deep, item-inline}
+use Rattle.block.proofs.Cases.{block-line, sequence-deep, block-sequence, mapping-deep, block-mapping, child-deeper, child-none, value-nothing, value-literal, value_line, entry-unkeyed, entry-unvalued, entry_whole, item-child, item-line, item-deep, item-inline}
 
 -- a line that goes on a mapping
 key-line : (indent : ℕ) (l : Line) (split : ℕ) → key_at indent l ≡ some split → (l.indent ≡ indent) × (key_end l.text ≡ some split)
@@ -155,11 +156,8 @@ module _ (ls : List Line) where
         pub value-nothing-at : Nothing ≡ behind_of b → stands ≡ child cap (within cap levels) d sum rest
         value-nothing-at p = value-nothing cap levels l.number (column_at l from) sum behind rest (told p) ∙ ap (λ (k : ℕ). child cap (within cap levels) k sum rest) (sym c)
 
-        pub value-literal-at : Literal ≡ behind_of b → stands ≡ literal cap false d sum rest
-        value-literal-at p = value-literal cap levels l.number (column_at l from) sum behind rest (told p) ∙ ap (λ (k : ℕ). literal cap false k sum rest) (sym c)
-
-        pub value-stripped-at : Stripped ≡ behind_of b → stands ≡ literal cap true d sum rest
-        value-stripped-at p = value-stripped cap levels l.number (column_at l from) sum behind rest (told p) ∙ ap (λ (k : ℕ). literal cap true k sum rest) (sym c)
+        pub value-literal-at : (k : Chomping) → Literal k ≡ behind_of b → stands ≡ literal cap (strips k) d sum rest
+        value-literal-at k p = value-literal cap levels l.number (column_at l from) sum behind rest k (told p) ∙ ap (λ (m : ℕ). literal cap (strips k) m sum rest) (sym c)
 
         pub value-line-at : Value ≡ behind_of b → (n : ℕ) → n ≡ l.number → stands ≡ line_value cap levels n sum b rest
         value-line-at p n m =

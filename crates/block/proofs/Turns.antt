@@ -20,11 +20,12 @@ use Rattle.scalar.specs.Code.{found_of}
 use Rattle.scalar.specs.Contract.{Refuses}
 use Rattle.literal.specs.Literal.{Read}
 use Rattle.literal.specs.Contract.{WroteBlock}
+use Rattle.literal.proofs.Laws.{leaf_wrote, leaf_refused}
 use Rattle.block.specs.Block.{entry_at, item_behind, block_seq, within}
 use Rattle.block.specs.Contract.{key_here, dash_here, column_at, text_at, WroteEntry, Ran}
 use Rattle.block.proofs.Parts.{found_at, found_nothing}
 use Rattle.block.proofs.Cases.{wrote-block, refuses-as, wrote-entry, agrees-block, block-end, child-end}
-use Rattle.block.proofs.Places.{key-there, key-splits, entry-as, dash-there, dash-text, key-first, block-line-at, sequence-deep-at, block-sequence-at, mapping-deep-at, block-mapping-at, child-deeper-at, child-none-at, entry-done-at, value-nothing-at, value-literal-at, value-stripped-at, value-line-at, item-child-at, item-line-at, item-splits, item-deep-at, item-inline-at}
+use Rattle.block.proofs.Places.{key-there, key-splits, entry-as, dash-there, dash-text, key-first, block-line-at, sequence-deep-at, block-sequence-at, mapping-deep-at, block-mapping-at, child-deeper-at, child-none-at, entry-done-at, value-nothing-at, value-literal-at, value-line-at, item-child-at, item-line-at, item-splits, item-deep-at, item-inline-at}
 use Rattle.writer.proofs.Laws.{len_appended, written_length}
 use Rattle.block.proofs.Invariants.{whole, inline-full, inline-later, mapped_end, mapped-start, mapped_all, map-full, map-refused, map-close, listed_start, list_full, Mapped, out-long, map-stops, map-cut, map-twice, map_on, Listed, sout-long, list-stops, list_on}
 
@@ -118,9 +119,9 @@ module _ {ls : List Line} {first indent levels : ℕ} {a old : Writer} {header :
   item_on {new} {j} w = list_on begun v (line_at ls i) (drop (i + 1) ls) (lines_next ls i dash) k new j (wrote-block _ _ ls (i + 1) out new j item-as w)
 
 -- what the search tries, by the reader
-pub ruleset children = (agrees-block, child-end, child-deeper-at, child-none-at, lines_end)
+pub ruleset children = (agrees-block, child-end, child-deeper-at, child-none-at, lines_end, leaf_wrote, leaf_refused)
 
-pub ruleset entry_values = (agrees-block, value-nothing-at, value-literal-at, value-stripped-at, value-line-at)
+pub ruleset entry_values = (agrees-block, value-nothing-at, value-literal-at, value-line-at)
 
 pub ruleset entry_reads = (entry-done-at, len_appended)
 
@@ -130,7 +131,7 @@ pub ruleset mappings = (map-full, map-refused, map-close)
 
 pub ruleset sequences = (list_full, listed_start)
 
-pub ruleset blocks = (agrees-block, block-end, key-first, block-line-at, sequence-deep-at, block-sequence-at, mapping-deep-at, block-mapping-at, lines_end)
+pub ruleset blocks = (agrees-block, leaf_wrote, leaf_refused, block-end, key-first, block-line-at, sequence-deep-at, block-sequence-at, mapping-deep-at, block-mapping-at, lines_end)
 
 pub ruleset items = (agrees-block, item-child-at, item-line-at, item-splits, item-deep-at, item-inline-at, found_at, found_nothing)
 

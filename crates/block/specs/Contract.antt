@@ -14,12 +14,13 @@ use Rattle.lines.specs.Lines.{Line}
 use Rattle.lines.specs.Dash.{dashed, is_dash}
 use Rattle.scalar.specs.Key.{key_end}
 use Rattle.scalar.specs.Contract.{Refuses}
+use Rattle.literal.specs.declared.Chomping.TheVariants.{Clip, Strip}
 use Rattle.literal.specs.Literal.{Read}
 use Rattle.literal.specs.Contract.{AgreesBlock}
 use Rattle.block.specs.declared.Opening.{Opening}
 use Rattle.block.specs.declared.Opening.TheVariants.{Dash, Key, Flow}
 use Rattle.block.specs.declared.Behind.{Behind}
-use Rattle.block.specs.declared.Behind.TheVariants.{Nothing, Literal, Stripped, Value}
+use Rattle.block.specs.declared.Behind.TheVariants.{Nothing, Literal, Value}
 use Rattle.block.specs.declared.EntryRead.{EntryRead}
 use Rattle.block.specs.Block.{key_at}
 
@@ -31,8 +32,8 @@ opening_of t = if dashed t then Dash else maybe (key_end t) Flow Key
 unfoldable pub behind_of : List ℕ → Behind
 behind_of t =
     if empty t then Nothing
-    else if same t (bytes "|") then Literal
-    else if same t (bytes "|-") then Stripped
+    else if same t (bytes "|") then Literal Clip
+    else if same t (bytes "|-") then Literal Strip
     else Value
 
 -- whether the first of the lines goes on a mapping at this indentation, and where its key ends

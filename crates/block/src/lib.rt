@@ -7,12 +7,10 @@
 
 ghost use Rattle.std.specs.Prelude.{◌≡◌, ◌+◌, ◌≤◌, ◌<◌, suc, length, drop};
 ghost use Rattle.std.proofs.Math.Option.{some};
-ghost use Rattle.item.specs.Tree as items;
 ghost use Rattle.writer.specs.Writing.{cap_of};
 ghost use Rattle.utf8.specs.White.{trim, trim_start};
 ghost use Rattle.lines.specs.Table.{line_at};
 ghost use Rattle.scalar.specs.Code.{found_of};
-ghost use Rattle.literal.specs.Literal as literals;
 ghost use Rattle.literal.specs.Contract.{ReadsLines, ReadsPart};
 ghost use Rattle.block.specs.Block as definition;
 ghost use Rattle.block.specs.Block.{starts_complex, line_value, block_key, value_behind, entry_at, entries_of, block_map, inline_map};
@@ -30,11 +28,11 @@ use scalar::{Role, key_end};
 use utf8::{trim_start, trimmed};
 use writer::Writer;
 
-/// An entry: the first line that is left, and where the key's item ends.
-#[derive(Clone, Copy, Debug, PartialEq, Eq)]
-pub struct EntryRead {
-    pub next: usize,
-    pub key_end: usize,
+// An entry: the first line that is left, and where the key's item ends.
+#[derive(Clone, Copy)]
+struct EntryRead {
+    next: usize,
+    key_end: usize,
 }
 
 // Where an entry begins: its line, its place in that line's text, and how far behind that its colon stands. That they lie in the lines is
@@ -47,20 +45,19 @@ struct EntryStart {
     split: usize,
 }
 
-/// What a line begins with: a dash, a key that ends at a place, or neither, so that it is one flow value.
-#[derive(Clone, Copy, Debug, PartialEq, Eq)]
-pub enum Opening {
+// What a line begins with: a dash, a key that ends at a place, or neither, so that it is one flow value.
+#[derive(Clone, Copy)]
+enum Opening {
     Dash,
     Key(usize),
     Flow,
 }
 
-/// What stands behind a key's colon.
-#[derive(Clone, Copy, Debug, PartialEq, Eq)]
-pub enum Behind {
+// What stands behind a key's colon.
+#[derive(Clone, Copy)]
+enum Behind {
     Nothing,
-    Literal,
-    Stripped,
+    Literal(Chomping),
     Value,
 }
 
@@ -93,19 +90,10 @@ fn behind_colon(t: &[u8]) -> Behind
 {
     match t {
         b"" => Behind::Nothing,
-        b"|" => Behind::Literal,
-        b"|-" => Behind::Stripped,
+        b"|" => Behind::Literal(Chomping::Clip),
+        b"|-" => Behind::Literal(Chomping::Strip),
         _ => Behind::Value,
     }
-}
-
-#[tactic(auto, using(crate::proofs::Parts::nulls))]
-fn null(i: usize, writer: &mut Writer<'_>) -> Result<usize, Refusal>
-    ensures { ReadsPart (literals.leaf (cap_of writer.old) writer.old.used items.null) i writer.old writer.new result }
-{
-    writer.reserve(HEADER)?;
-    writer.null();
-    Ok(i)
 }
 
 // A part of a line that is one value; the lines from `i` on are left.
@@ -157,13 +145,11 @@ fn child(
     ensures { ReadsLines (definition.child (cap_of writer.old) (within (cap_of writer.old) levels) indent writer.old.used)
         lines.now i writer.old writer.new result }
 {
-    if i == lines.len() {
-        return null(i, writer);
-    }
-    if lines.indent(i) > indent {
+    if i < lines.len() && lines.indent(i) > indent {
         return block(lines, i, levels, writer);
     }
-    null(i, writer)
+    writer.null()?;
+    Ok(i)
 }
 
 // The value of the entry that begins at `at`.
@@ -188,8 +174,7 @@ fn entry_value(
     let indent = lines.indent(at.line) + at.from;
     match behind_colon(behind) {
         Behind::Nothing => child(lines, at.line + 1, indent, levels, writer),
-        Behind::Literal => literal(lines, at.line + 1, indent, Chomping::Clip, writer),
-        Behind::Stripped => literal(lines, at.line + 1, indent, Chomping::Strip, writer),
+        Behind::Literal(chomping) => literal(lines, at.line + 1, indent, chomping, writer),
         Behind::Value => line_value(behind, at.line + 1, levels, lines.number(at.line), writer),
     }
 }
@@ -223,10 +208,7 @@ fn key_at(lines: &Lines<'_>, i: usize, indent: usize) -> Found
     requires { i ≤ length lines.now }
     ensures { result ≡ found_of (key_here indent (drop i lines.now)) }
 {
-    if i == lines.len() {
-        return Found::Nothing;
-    }
-    if lines.indent(i) != indent {
+    if i == lines.len() || lines.indent(i) != indent {
         return Found::Nothing;
     }
     key_end(lines.text(i))
@@ -469,7 +451,8 @@ pub fn block(
     ensures { ReadsLines (definition.block (cap_of writer.old) levels writer.old.used) lines.now i writer.old writer.new result }
 {
     if i == lines.len() {
-        return null(i, writer);
+        writer.null()?;
+        return Ok(i);
     }
     let text = lines.text(i);
     let indent = lines.indent(i);

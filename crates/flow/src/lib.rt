@@ -35,25 +35,27 @@ pub struct Cursor<'a> {
 #[derive(Clone, Copy)]
 struct Site {
     levels: usize,
-    line: u32,
+    number: u32,
 }
 
 impl Site {
     // Inside a collection that opens here.
     fn inside(self) -> Result<Site, Refusal>
-        ensures { MatchResult result (λ inside. (self.levels ≡ 0 → ⊥) × (inside.levels ≡ self.levels - 1) × (inside.line ≡ self.line))
-            (λ e. (self.levels ≡ 0) × (e ≡ Refusal.TooDeep self.line)) }
+        ensures { MatchResult result (λ inside. (self.levels ≡ 0 → ⊥) × (inside.levels ≡ self.levels - 1) × (inside.number ≡ self.number))
+            (λ e. (self.levels ≡ 0) × (e ≡ Refusal.TooDeep self.number)) }
     {
-        let levels = levels_inside(self.levels, self.line)?;
+        let levels = levels_inside(self.levels, self.number)?;
         Ok(Site { levels, ..self })
     }
 }
 
-/// How many more collections may be opened inside one that line `line` opens.
-pub fn levels_inside(levels: usize, line: u32) -> Result<usize, Refusal>
-    ensures { MatchResult result (λ inside. (levels ≡ 0 → ⊥) × (inside ≡ levels - 1)) (λ e. (levels ≡ 0) × (e ≡ Refusal.TooDeep line)) }
+/// How many more collections may be opened inside one that line `number` opens.
+pub fn levels_inside(levels: usize, number: u32) -> Result<usize, Refusal>
+    ensures { MatchResult result (λ inside. (levels ≡ 0 → ⊥) × (inside ≡ levels - 1)) (λ e. (levels ≡ 0) × (e ≡ Refusal.TooDeep number)) }
 {
-    levels.checked_sub(1).ok_or(Refusal::TooDeep { line })
+    levels
+        .checked_sub(1)
+        .ok_or(Refusal::TooDeep { line: number })
 }
 
 fn skip_spaces(s: &[u8], from: usize) -> usize
@@ -99,7 +101,7 @@ fn stuck(s: &[u8], i: usize) -> bool
 #[cycle(reading)]
 fn sequence(s: &[u8], start: usize, site: Site, writer: &mut Writer<'_>) -> Result<usize, Refusal>
     requires { start ≤ length s.now }
-    ensures { Reads encode (flow_items (cap_of writer.old) site.line site.levels writer.old.used (drop start s.now))
+    ensures { Reads encode (flow_items (cap_of writer.old) site.number site.levels writer.old.used (drop start s.now))
         s.now writer.old writer.new result }
 {
     let first = writer.used();
@@ -107,14 +109,14 @@ fn sequence(s: &[u8], start: usize, site: Site, writer: &mut Writer<'_>) -> Resu
     loop {
         let i = skip_separators(s, next, writer.used() > first);
         if i == s.len() {
-            return Err(Refusal::FlowSequenceOpen { line: site.line });
+            return Err(Refusal::FlowSequenceOpen { line: site.number });
         }
         if s[i] == b']' {
             return Ok(i + 1);
         }
         let is_stuck = stuck(s, i);
         if is_stuck {
-            return Err(Refusal::StuckSequence { line: site.line });
+            return Err(Refusal::StuckSequence { line: site.number });
         }
         let read = value(s, i, site, Stops::InFlow, Role::AsValue, writer)?;
         next = read.next;
@@ -135,12 +137,12 @@ fn leaves_out(b: u8) -> bool
 #[cycle(reading)]
 fn entry_value(s: &[u8], i: usize, site: Site, writer: &mut Writer<'_>) -> Result<usize, Refusal>
     requires { i ≤ length s.now }
-    ensures { Reads encode (entry_value (cap_of writer.old) site.line
-        (definition.value (cap_of writer.old) site.line site.levels true) writer.old.used (drop i s.now))
+    ensures { Reads encode (entry_value (cap_of writer.old) site.number
+        (definition.value (cap_of writer.old) site.number site.levels true) writer.old.used (drop i s.now))
         s.now writer.old writer.new result }
 {
     if i < s.len() && leaves_out(s[i]) {
-        let null = scalar::null_at(s, i, Role::AsValue, writer)?;
+        let null = scalar::null_at(i, Role::AsValue, writer)?;
         return Ok(null.next);
     }
     let read = value(s, i, site, Stops::InFlow, Role::AsValue, writer)?;
@@ -152,16 +154,16 @@ fn entry_value(s: &[u8], i: usize, site: Site, writer: &mut Writer<'_>) -> Resul
 #[cycle(reading)]
 fn entry(s: &[u8], i: usize, site: Site, writer: &mut Writer<'_>) -> Result<usize, Refusal>
     requires { i ≤ length s.now }
-    ensures { ReadsPair (entry_of (cap_of writer.old) site.line (definition.value (cap_of writer.old) site.line site.levels true)
+    ensures { ReadsPair (entry_of (cap_of writer.old) site.number (definition.value (cap_of writer.old) site.number site.levels true)
         writer.old.used (drop i s.now)) s.now writer.old writer.new i result }
 {
     let key = value(s, i, site, Stops::InFlow, Role::AsKey, writer)?;
     if !key.key {
-        return Err(Refusal::KeyNotScalar { line: site.line });
+        return Err(Refusal::KeyNotScalar { line: site.number });
     }
     let colon = skip_spaces(s, key.next);
     if colon == s.len() || s[colon] != b':' {
-        return Err(Refusal::KeyWithoutColon { line: site.line });
+        return Err(Refusal::KeyWithoutColon { line: site.number });
     }
     entry_value(s, skip_spaces(s, colon + 1), site, writer)
 }
@@ -172,7 +174,7 @@ fn entry(s: &[u8], i: usize, site: Site, writer: &mut Writer<'_>) -> Result<usiz
 #[cycle(reading)]
 fn entries(s: &[u8], start: usize, site: Site, writer: &mut Writer<'_>) -> Result<usize, Refusal>
     requires { start ≤ length s.now }
-    ensures { ReadsEntries (flow_entries (cap_of writer.old) site.line site.levels writer.old.used (drop start s.now)) site.line
+    ensures { ReadsEntries (flow_entries (cap_of writer.old) site.number site.levels writer.old.used (drop start s.now)) site.number
         s.now writer.old writer.new result }
 {
     let first = writer.used();
@@ -181,7 +183,7 @@ fn entries(s: &[u8], start: usize, site: Site, writer: &mut Writer<'_>) -> Resul
         let before = writer.used();
         let i = skip_separators(s, next, before > first);
         if i == s.len() {
-            return Err(Refusal::FlowMappingOpen { line: site.line });
+            return Err(Refusal::FlowMappingOpen { line: site.number });
         }
         if s[i] == b'}' {
             return Ok(i + 1);
@@ -202,13 +204,13 @@ fn entries(s: &[u8], start: usize, site: Site, writer: &mut Writer<'_>) -> Resul
 #[cycle(reading)]
 fn mapping(s: &[u8], start: usize, site: Site, writer: &mut Writer<'_>) -> Result<usize, Refusal>
     requires { start ≤ length s.now }
-    ensures { Reads encode (flow_entries (cap_of writer.old) site.line site.levels writer.old.used (drop start s.now))
+    ensures { Reads encode (flow_entries (cap_of writer.old) site.number site.levels writer.old.used (drop start s.now))
         s.now writer.old writer.new result }
 {
     let first = writer.used();
     let end = entries(s, start, site, writer);
     if entries::repeats(writer.written().part(first, writer.used())) {
-        return Err(Refusal::KeyTwice { line: site.line });
+        return Err(Refusal::KeyTwice { line: site.number });
     }
     end
 }
@@ -220,18 +222,17 @@ fn collection(s: &[u8], i: usize, site: Site, writer: &mut Writer<'_>) -> Result
     requires in_range { i < length s.now }
     requires bracket { (get_or s.now i 0 ≡ 123) ⊎ (get_or s.now i 0 ≡ 91) }
     ensures { (in_flow : Bool) (role : Roles) → ReadsValue role
-        (definition.value (cap_of writer.old) site.line site.levels in_flow role writer.old.used (drop i s.now))
+        (definition.value (cap_of writer.old) site.number site.levels in_flow role writer.old.used (drop i s.now))
         s.now writer.old writer.new result }
 {
     let inside = site.inside()?;
     let header = writer.begin()?;
-    if s[i] == b'{' {
-        let next = mapping(s, i + 1, inside, writer)?;
-        writer.end(header, Kind::Map);
-        return Ok(Parsed { next, key: false });
-    }
-    let next = sequence(s, i + 1, inside, writer)?;
-    writer.end(header, Kind::Seq);
+    let (kind, next) = if s[i] == b'{' {
+        (Kind::Map, mapping(s, i + 1, inside, writer)?)
+    } else {
+        (Kind::Seq, sequence(s, i + 1, inside, writer)?)
+    };
+    writer.end(header, kind);
     Ok(Parsed { next, key: false })
 }
 
@@ -246,17 +247,17 @@ fn value(
     writer: &mut Writer<'_>,
 ) -> Result<Parsed, Refusal>
     requires { i ≤ length s.now }
-    ensures { ReadsValue role (definition.value (cap_of writer.old) site.line site.levels (is_in_flow stops) role writer.old.used
+    ensures { ReadsValue role (definition.value (cap_of writer.old) site.number site.levels (is_in_flow stops) role writer.old.used
         (drop i s.now)) s.now writer.old writer.new result }
 {
     if i == s.len() {
-        return scalar::null_at(s, i, role, writer);
+        return scalar::null_at(i, role, writer);
     }
     match s[i] {
         b'{' | b'[' => collection(s, i, site, writer),
-        b'"' => scalar::quoted(Quote::Double, s, i + 1, site.line, writer),
-        b'\'' => scalar::quoted(Quote::Single, s, i + 1, site.line, writer),
-        b'&' | b'*' | b'!' => Err(Refusal::AnchorAliasOrTag { line: site.line }),
+        b'"' => scalar::quoted(Quote::Double, s, i + 1, site.number, writer),
+        b'\'' => scalar::quoted(Quote::Single, s, i + 1, site.number, writer),
+        b'&' | b'*' | b'!' => Err(Refusal::AnchorAliasOrTag { line: site.number }),
         _ => scalar::plain(s, i, stops, role, writer),
     }
 }
@@ -284,9 +285,8 @@ impl<'a> Cursor<'a> {
         ensures levels { result.levels ≡ self.entry.levels }
     {
         Cursor {
-            line: self.line,
             at: skip_spaces(self.line, self.at),
-            levels: self.levels,
+            ..self
         }
     }
 
@@ -304,7 +304,7 @@ impl<'a> Cursor<'a> {
     {
         let site = Site {
             levels: self.levels,
-            line: number,
+            number,
         };
         value(self.line, self.at, site, stops, role, writer)
     }
@@ -316,18 +316,18 @@ pub fn flow(
     s: &[u8],
     levels: usize,
     role: Role,
-    line: u32,
+    number: u32,
     writer: &mut Writer<'_>,
 ) -> Result<bool, Refusal>
-    ensures { ReadsWhole role (definition.flow (cap_of writer.old) line levels role writer.old.used s.now)
+    ensures { ReadsWhole role (definition.flow (cap_of writer.old) number levels role writer.old.used s.now)
         writer.old writer.new result }
 {
     let read = Cursor::start(s, levels)
         .skip_spaces()
-        .value(Stops::AtLineEnd, role, line, writer)?;
+        .value(Stops::AtLineEnd, role, number, writer)?;
     if skip_spaces(s, read.next) == s.len() {
         Ok(read.key)
     } else {
-        Err(Refusal::TextAfterValue { line })
+        Err(Refusal::TextAfterValue { line: number })
     }
 }

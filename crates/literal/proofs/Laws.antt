@@ -3,19 +3,22 @@ use Rattle.std.proofs.Common.{◌≡◌, refl, sym, ap, ◌∙◌, subst, ℕ, �
 use Rattle.std.proofs.lemmas.List.{length-replicate}
 use Rattle.std.proofs.Math.Seq.{take-append-add}
 use Rattle.std.proofs.lemmas.Bool.{lt-leb}
-use Rattle.refusal.specs.Base.{ch, empty, good, refused, ◌>>=◌}
-use Rattle.item.specs.Tree.{str}
-use Rattle.item.specs.Encode.{encode, head}
-use Rattle.item.proofs.Size.{item-length}
+use Rattle.refusal.specs.Base.{ch, empty, ◌>>=◌}
+use Rattle.refusal.specs.declared.Refusal.{Refusal}
+use Rattle.item.specs.Tree.{Yaml}
+use Rattle.item.specs.Encode.{encode}
 use Rattle.writer.specs.declared.Writer.{Writer}
-use Rattle.writer.specs.Writing.{cap_of, Appends}
+use Rattle.writer.specs.Writing.{cap_of, Appends, Lacks}
 use Rattle.writer.proofs.Laws.{appends_more, appends_item, len_appended, keeps_same}
 use Rattle.lines.specs.Lines.{Line}
 use Rattle.lines.specs.Table.{line_at}
 use Rattle.lines.specs.Ready.{Ended, AreLines}
 use Rattle.lines.proofs.Rows.{lines_next, lines_end}
 use Rattle.lines.proofs.Ends.{ended-drop}
+use Rattle.scalar.specs.declared.Role.TheVariants.{AsValue}
 use Rattle.scalar.specs.Read.{cost, charge}
+use Rattle.scalar.specs.Contract.{written, Refuses}
+use Rattle.scalar.proofs.Laws.{Flat, written-cost}
 use Rattle.literal.specs.Literal.{leaf, onto, literal_line, literal_lines}
 use Rattle.literal.specs.Walk.{body_from, rest_from, extra_spaces, Extent}
 use Rattle.literal.specs.Contract.{WroteBlock}
@@ -161,34 +164,34 @@ module _ (ls : List Line) (indent first i to : ℕ) (old now : Writer) (v : Put 
 
 -- ---- the string that is answered
 
-module _ (cap at : ℕ) (t : List ℕ) (ls : List Line) where
-  pub leaf-short : cap < at + (6 + length t) → leaf cap at (str t) ls ≡ refused 50 0 0
-  unfolding leaf charge cost ◌>>=◌
-  leaf-short h = rw (lt-leb (at + (6 + length t)) cap h)
+-- a scalar whose item is put, or has no room, is read as the definition says
+module _ (y : Yaml) (flat : Flat y) (old new : Writer) (ls : List Line) where
+  -- what is put for it
+  put-cost : length (encode y) ≡ cost AsValue y
+  put-cost = unfold written in written-cost AsValue y flat
 
-  pub leaf-fits : at + (6 + length t) ≤ cap → leaf cap at (str t) ls ≡ good (str t, at + (6 + length t), ls)
-  unfolding leaf charge cost ◌>>=◌
-  leaf-fits h = rw (le-leb (at + (6 + length t)) cap h)
+  pub leaf_wrote : (i next : ℕ) → i ≤ next → next ≤ length ls → Appends old new (encode y)
+      → WroteBlock (leaf (cap_of old) old.used y (drop next ls)) ls i old new next
+  unfolding leaf charge ◌>>=◌
+  leaf_wrote i next o w p =
+      let u : new.used ≡ old.used + cost AsValue y = p.used ∙ ap (λ (x : ℕ). old.used + x) put-cost in
+      record {
+        tree = y;
+        is = rw (u, le-leb (old.used + cost AsValue y) (cap_of old) (omega (arith, u, new.within, len_appended p)));
+        appends = p;
+        on = o;
+        within = w;
+      }
 
--- a header, and then the string behind it
-pub wrote-string : (ls : List Line) (i : ℕ) (old mid new : Writer) (next : ℕ) (t : List ℕ) → i ≤ next → next ≤ length ls
-    → Appends old mid (head 3 (length t)) → Appends mid new t → WroteBlock (leaf (cap_of old) old.used (str t) (drop next ls)) ls i old new next
-unfolding encode
-wrote-string ls i old mid new next t o w p q =
-    let a : Appends old new (encode (str t)) = appends_item 3 (length t) p q refl in
-    let u : new.used ≡ old.used + (6 + length t) = omega (arith, a.used, item-length 3 t) in
-    record {
-      tree = str t;
-      is = leaf-fits (cap_of old) old.used t (drop next ls) (omega (arith, u, new.within, len_appended a)) ∙ ap (λ (n : ℕ). good (str t, n, drop next ls)) (sym u);
-      appends = a;
-      on = o;
-      within = w;
-    }
+  pub leaf_refused : (e : Refusal) → Lacks old new (encode y) e → Refuses (leaf (cap_of old) old.used y ls) old new e
+  unfolding leaf charge ◌>>=◌
+  leaf_refused e p = record {
+    is = rw (p.is, lt-leb (old.used + cost AsValue y) (cap_of old) (omega (arith, p.short, put-cost)));
+    keeps = keeps_same p.same;
+  }
 
 pub ruleset counts = (row-end, row-stop, row-rest, row-size, extent_of)
 
 pub ruleset line_puts = (len_appended, length-replicate)
 
 pub ruleset lines_puts = (put_more, len_appended)
-
-pub ruleset empties = (leaf-short, keeps_same)

@@ -1,22 +1,25 @@
 -- What is answered for a literal of the table's lines. Assumes nothing.
 use Rattle.std.proofs.Common.{if◌then◌else◌, ◌≡◌, refl, sym, ap, ◌∙◌, ℕ, ◌+◌, ◌-◌, ◌≤◌, ◌<◌, arith, List, [], Bool, true, false, length, take, drop, length-append, length-take-le, lt-ltb, le-ltb}
-use Rattle.refusal.specs.Base.{refused}
-use Rattle.item.specs.Tree.{str}
-use Rattle.item.specs.Encode.{head}
+use Rattle.refusal.specs.declared.Refusal.{Refusal}
+use Rattle.refusal.specs.declared.Refusal.TheVariants.{WorkTooShort}
+use Rattle.item.specs.Tree.{Yaml, str}
+use Rattle.item.specs.Encode.{head, encode}
+use Rattle.item.proofs.Size.{encode-size}
 use Rattle.writer.specs.declared.Writer.{Writer}
-use Rattle.writer.specs.Writing.{cap_of, Appends}
-use Rattle.writer.proofs.Laws.{keeps_same}
+use Rattle.writer.specs.Writing.{cap_of, room_of, Appends}
+use Rattle.writer.proofs.Laws.{appends_item}
 use Rattle.lines.specs.Lines.{Line}
 use Rattle.lines.specs.Table.{line_at}
 use Rattle.lines.specs.Ready.{AreLines}
 use Rattle.lines.proofs.Rows.{lines_next, lines_end}
 use Rattle.lines.proofs.Ends.{ended-drop}
 use Rattle.literal.specs.declared.Body.{Body}
-use Rattle.literal.specs.Literal.{leaf, literal_line, literal_lines, literal_under, drop_newlines, literal}
+use Rattle.scalar.specs.Contract.{Refuses}
+use Rattle.literal.specs.Literal.{Read, leaf, literal_line, literal_lines, literal_under, drop_newlines, literal}
 use Rattle.literal.specs.Contract.{WroteBlock}
 use Rattle.literal.specs.Walk.{body_from, rest_from, Extent, whole}
 use Rattle.literal.proofs.Blanks.{line-some}
-use Rattle.literal.proofs.Laws.{row-body, leaf-short, wrote-string}
+use Rattle.literal.proofs.Laws.{row-body, leaf_wrote, leaf_refused}
 use Rattle.literal.proofs.Ends.{kept-front}
 
 -- ---- a key with no literal below it, or with one
@@ -67,17 +70,23 @@ module _ (ls : List Line) (i indent : ℕ) (are : AreLines ls) (h : i < length l
     kept-length : length kept ≡ len
     kept-length = ap length kept-is ∙ length-take-le len all (omega (arith, x.size, (kept-range strip b.len len extent_some e).1))
 
-    pub literal-short : (cap at : ℕ) → cap < at + (6 + len) → whole cap strip at (literal_lines indent (drop i ls)) ≡ refused 50 0 0
-    literal-short cap at m = leaf-short cap at kept (rest_from ls indent i) (omega (arith, kept-length))
+    module _ (old : Writer) where
+      abbrev answer : Read Yaml
+      answer = whole (cap_of old) strip old.used (literal_lines indent (drop i ls))
 
-    pub literal-wrote : (old mid new : Writer) (to : ℕ) → to ≡ mid.used + len → Appends old mid (head 3 len) → Appends mid new (take (to - mid.used) all)
-        → WroteBlock (whole (cap_of old) strip old.used (literal_lines indent (drop i ls))) ls i old new b.next
-    literal-wrote old mid new to m p q =
-        let d : to - mid.used ≡ len = omega (arith, m) in
-        let p' : Appends old mid (head 3 (length kept)) = rw kept-length p in
-        let q' : Appends mid new kept = rw (d, ← kept-is) at q in
-        rw x.left (wrote-string ls i old mid new b.next kept x.on x.within p' q')
+      pub literal-refused : (new : Writer) (e : Refusal) → room_of old < 6 + len → e ≡ WorkTooShort → new ≡ old → Refuses answer old new e
+      literal-refused new e m k same =
+          leaf_refused (str kept) tt old new (rest_from ls indent i) e
+          (record { is = k; short = omega (arith, m, kept-length, encode-size (str kept)); same = same })
 
-pub ruleset wholes = (extent_some, literal-short, literal-wrote, keeps_same)
+      pub literal-wrote : (mid new : Writer) (to : ℕ) → to ≡ mid.used + len → Appends old mid (head 3 len) → Appends mid new (take (to - mid.used) all)
+          → WroteBlock answer ls i old new b.next
+      unfolding encode
+      literal-wrote mid new to m p q =
+          let d : to - mid.used ≡ len = omega (arith, m) in
+          let c : Appends mid new kept = rw (d, ← kept-is) at q in
+          rw x.left (leaf_wrote (str kept) tt old new ls i b.next x.on x.within (appends_item 3 len p c (sym kept-length)))
 
-pub ruleset literals = (literal-none, literal-beside, literal_under_lem)
+pub ruleset wholes = (extent_some, literal-refused, literal-wrote)
+
+pub ruleset literals = (literal-none, literal-beside, literal_under_lem, leaf_wrote, leaf_refused)

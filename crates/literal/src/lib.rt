@@ -3,15 +3,14 @@
 
 ghost use Rattle.std.specs.Prelude.{◌≡◌, [], ◌∷◌, ◌++◌, ◌+◌, ◌-◌, ◌≤◌, ◌<◌, length, take, replicate, if◌then◌else◌};
 ghost use Rattle.refusal.specs.Base.{ch};
-ghost use Rattle.item.specs.Tree.{str};
 ghost use Rattle.writer.specs.Writing.{cap_of, Appends};
 ghost use Rattle.lines.specs.Table.{line_at};
 ghost use Rattle.lines.specs.Ready.{AreLines};
 ghost use Rattle.literal.specs.Literal as definition;
-ghost use Rattle.literal.specs.Contract.{strips, ReadsLines, ReadsPart};
+ghost use Rattle.literal.specs.Contract.{strips, ReadsLines};
 ghost use Rattle.literal.specs.Walk.{extra_spaces, body_from, Extent, whole};
 
-use item::{HEADER, Kind};
+use item::Kind;
 use lines::Lines;
 use refusal::Refusal;
 use writer::Writer;
@@ -23,11 +22,11 @@ pub enum Chomping {
     Strip,
 }
 
-/// The body of a literal: the first line behind it, and how many bytes its lines give.
-#[derive(Clone, Copy, Debug, PartialEq, Eq)]
-pub struct Body {
-    pub next: usize,
-    pub len: usize,
+// The body of a literal: the first line behind it, and how many bytes its lines give.
+#[derive(Clone, Copy)]
+struct Body {
+    next: usize,
+    len: usize,
 }
 
 // The spaces before a text of `size` bytes that stands `deeper` than the literal's first line. A blank line has none, whatever
@@ -123,21 +122,10 @@ fn put_literal(
     let indent = lines.indent(i);
     let body = extent(lines, i, indent);
     let len = kept_len(body.len, chomping);
-    writer.reserve(HEADER + len)?;
-    writer.header(Kind::Str, len);
+    writer.header(Kind::Str, len)?;
     let to = writer.used() + len;
     put_lines(lines, i, indent, to, writer);
     Ok(body.next)
-}
-
-// A literal of no lines, where `i` is the first line that is left.
-#[tactic(auto, using(crate::proofs::Laws::empties))]
-fn put_empty(i: usize, writer: &mut Writer<'_>) -> Result<usize, Refusal>
-    ensures { ReadsPart (definition.leaf (cap_of writer.old) writer.old.used (str [])) i writer.old writer.new result }
-{
-    writer.reserve(HEADER)?;
-    writer.header(Kind::Str, 0);
-    Ok(i)
 }
 
 /// The literal of a key that is indented by `under`, from line `i` on, and the first line behind it.
@@ -155,5 +143,6 @@ pub fn literal(
     if i < lines.len() && lines.indent(i) > under {
         return put_literal(lines, i, chomping, writer);
     }
-    put_empty(i, writer)
+    writer.string(b"")?;
+    Ok(i)
 }

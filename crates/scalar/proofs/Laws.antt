@@ -1,21 +1,17 @@
 -- Laws of scalars: what they are written as, and where plain text ends. Assumes nothing.
-use Rattle.std.specs.Prelude.{Result, if◌then◌else◌}
-use Rattle.std.specs.Result.{IsErrAnd}
+use Rattle.std.specs.Prelude.{if◌then◌else◌}
 use Rattle.std.proofs.Common.{◌≡◌, refl, ap, ◌∙◌, ℕ, suc, ◌+◌, ◌-◌, ◌≤◌, ◌<◌, add-one, arith, List, [], ◌∷◌, Bool, true, false, ◌&&◌, length, length-drop, take, drop, get_or, drop_of_length-le, ℤ, drop-cons, drop-drop, le-leb, ne_eqb}
 use Rattle.std.proofs.Math.Option.{Option, none, some}
 use Rattle.std.proofs.Math.Seq.{length-sets}
 use Rattle.std.proofs.lemmas.Bool.{lt-leb}
-use Rattle.refusal.specs.Base.{◌>>=◌, ch, bytes, one_of}
-use Rattle.refusal.proofs.Tools.{err_is}
+use Rattle.refusal.specs.Base.{◌>>=◌, ch, one_of}
 use Rattle.refusal.specs.declared.Refusal.{Refusal}
-use Rattle.refusal.specs.declared.Refusal.TheVariants.{WorkTooShort}
 use Rattle.item.specs.Tree.{Yaml, null, bool, int, str, seq, dict}
 use Rattle.item.specs.Encode.{item, encode}
 use Rattle.item.proofs.Size.{item-length, encode-size}
 use Rattle.writer.specs.declared.Writer.{Writer}
-use Rattle.writer.specs.Writing.{cap_of, room_of, Appends, Lacks}
+use Rattle.writer.specs.Writing.{cap_of, Appends, Lacks}
 use Rattle.writer.proofs.Laws.{appends_none, keeps_same}
-use Rattle.writer.proofs.Sizes.{null_size, bool_size, int_size}
 use Rattle.utf8.specs.Part.{part}
 use Rattle.utf8.specs.White.{trim}
 use Rattle.utf8.specs.Places.{First}
@@ -26,7 +22,7 @@ use Rattle.scalar.specs.declared.Role.TheVariants.{AsValue, AsKey}
 use Rattle.scalar.specs.Scalars.{nulls, trues, falses, int_or, bool_text, scalar_of}
 use Rattle.scalar.specs.Read.{cost, charge, scalar, ends_item, ends_colon, stops_plain, plain_text, onto, plain}
 use Rattle.scalar.specs.Contract.{written, is_key, Refuses, WroteValue}
-use Rattle.scalar.specs.Code.{plain_len, Puts}
+use Rattle.scalar.specs.Code.{plain_len}
 
 -- ---- what a scalar is written as
 
@@ -87,12 +83,7 @@ module _ (role : Role) (y : Yaml) (flat : Flat y) (s : List ℕ) (old new : Writ
         keeps = keeps_same p.same;
       }
 
--- bytes that have no room are not put
-pub puts_nothing : (w : Writer) (bytes : List ℕ) (n : ℕ) (e : Refusal) (r : Result (Unit {0}) Refusal)
-    → IsErrAnd r (λ y. y ≡ e) → (room_of w < n) × (e ≡ WorkTooShort) → n ≡ length bytes → Puts w w bytes r
-puts_nothing w bytes n e r q h m = rw (err_is r q) (record { is = h.1; short = omega (arith, h.0, m); same = refl })
-
-pub ruleset rooms = (puts_nothing, appends_none, null_size, bool_size, int_size, item-length)
+pub ruleset rooms = (appends_none, item-length)
 
 pub ruleset scalars = (wrote_scalar, refused_scalar)
 

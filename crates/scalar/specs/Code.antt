@@ -1,5 +1,5 @@
 -- For the contracts inside the crate: what the code's answers say in the words of the definitions, and plain text by its length. Uses Base
--- and Told of `refusal`; Tree and Encode of `item`; Writing of `writer`; Key and Read of this crate. Assumes nothing.
+-- and Told of `refusal`; Tree and Encode of `item`; Key and Read of this crate. Assumes nothing.
 use Rattle.std.specs.Prelude.{◌≡◌, ℕ, suc, ◌+◌, ◌≤◌, ◌<◌, List, [], ◌∷◌, Bool, false, ◌&&◌, length, drop, Option as Chance, Some, None, Result, Ok, Err, if◌then◌else◌}
 use Rattle.std.proofs.Math.Option.{Option, none, some}
 use Rattle.refusal.specs.Base.{Answer, good, ch}
@@ -9,8 +9,6 @@ use Rattle.item.specs.Tree.{Yaml, null, bool, int, str}
 use Rattle.item.specs.Encode.{signed}
 use Rattle.item.specs.declared.Found.{Found}
 use Rattle.item.specs.declared.Found.TheVariants.{At, Nothing}
-use Rattle.writer.specs.declared.Writer.{Writer}
-use Rattle.writer.specs.Writing.{Appends, Lacks}
 use Rattle.scalar.specs.declared.Quote.{Quote}
 use Rattle.scalar.specs.declared.Quote.TheVariants.{Single, Double}
 use Rattle.scalar.specs.declared.plain_text.Said.{Said}
@@ -49,11 +47,6 @@ yaml_of said.Null = null
 yaml_of (said.Bool b) = bool b
 yaml_of (said.Int n) = int (signed n.negative n.magnitude)
 yaml_of (said.Text t) = str t.now
-
--- bytes are put behind what was written; or they have no room, and nothing is
-abbrev pub Puts : Writer → Writer → List ℕ → Result (Unit {0}) Refusal → Type 0
-Puts old new bytes (Ok done) = Appends old new bytes
-Puts old new bytes (Err e) = Lacks old new bytes e
 
 -- how many bytes plain text has
 unfoldable pub plain_len : Bool → List ℕ → ℕ

@@ -86,7 +86,7 @@ pub fn key_end(s: &[u8]) -> Found
     let mut quote = None;
     let mut depth: usize = 0;
     let mut i: usize = 0;
-    let found = loop {
+    loop {
         i = skip_passed(s, i);
         if i >= s.len() {
             break Found::Nothing;
@@ -98,6 +98,5 @@ pub fn key_end(s: &[u8]) -> Found
         depth = depth_after(quote, depth, b);
         quote = quote_after(quote, b);
         i += 1;
-    };
-    found
+    }
 }

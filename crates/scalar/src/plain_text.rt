@@ -3,16 +3,16 @@ ghost use Rattle.std.specs.Prelude.{◌≡◌, true, false, List, ℕ, ◌+◌, 
 ghost use Rattle.refusal.specs.Base.{one_of};
 ghost use Rattle.item.specs.Tree.{null, bool, int, str};
 ghost use Rattle.item.specs.Encode.{signed, item};
-ghost use Rattle.writer.specs.Writing.{cap_of};
+ghost use Rattle.writer.specs.Writing.{cap_of, Puts};
 ghost use Rattle.number.specs.Integers.{int_text};
 ghost use Rattle.scalar.specs.Scalars.{nulls, trues, falses, scalar_of};
 ghost use Rattle.scalar.specs.Read as read;
 ghost use Rattle.scalar.specs.Read.{ends_item, ends_colon, stops_plain, scalar};
 ghost use Rattle.scalar.specs.Contract.{written, is_key, is_in_flow, ReadsValue};
-ghost use Rattle.scalar.specs.Code.{yaml_of, Puts, plain_len};
+ghost use Rattle.scalar.specs.Code.{yaml_of, plain_len};
 
 use super::{Parsed, Role, Stops};
-use item::{HEADER, Integer, Kind, one_of};
+use item::{Integer, Kind, one_of};
 use number::{int_len, integer};
 use refusal::Refusal;
 use utf8::{first_place, trimmed};
@@ -77,96 +77,39 @@ fn said_by(t: &[u8]) -> Said<'_>
     }
 }
 
-// A string's item is the same in a key's place.
-#[tactic(auto, using(crate::proofs::Laws::rooms), unfolding(item::specs::Encode::encode))]
-fn put_text(t: &[u8], writer: &mut Writer<'_>) -> Result<(), Refusal>
-    ensures { Puts writer.old writer.new (item 3 t.now) result }
-{
-    writer.reserve(HEADER + t.len())?;
-    writer.string(t);
-    Ok(())
-}
-
-#[tactic(auto, using(crate::proofs::Laws::rooms), unfolding(crate::specs::Contract::written))]
-fn put_null(role: Role, writer: &mut Writer<'_>) -> Result<(), Refusal>
-    ensures { Puts writer.old writer.new (written role null) result }
-{
-    match role {
-        Role::AsKey => Ok(()),
-        Role::AsValue => {
-            writer.reserve(HEADER)?;
-            writer.null();
-            Ok(())
-        }
-    }
-}
-
-#[tactic(auto, using(crate::proofs::Laws::rooms), unfolding(crate::specs::Contract::written, crate::specs::Scalars::bool_text, refusal::specs::Base::bytes))]
-fn put_bool(value: bool, role: Role, writer: &mut Writer<'_>) -> Result<(), Refusal>
-    ensures { Puts writer.old writer.new (written role (bool value)) result }
-{
-    match role {
-        Role::AsKey => put_text(if value { b"true" } else { b"false" }, writer),
-        Role::AsValue => {
-            writer.reserve(HEADER + 1)?;
-            writer.bool(value);
-            Ok(())
-        }
-    }
-}
-
-#[tactic(auto, using(crate::proofs::Laws::rooms), unfolding(crate::specs::Contract::written))]
-fn put_int(n: Integer, role: Role, writer: &mut Writer<'_>) -> Result<(), Refusal>
-    ensures { Puts writer.old writer.new (written role (int (signed n.negative n.magnitude))) result }
-{
-    match role {
-        Role::AsKey => put_int_key(n, writer),
-        Role::AsValue => {
-            writer.reserve(HEADER + 8)?;
-            writer.int(n);
-            Ok(())
-        }
-    }
-}
-
 // An integer's text as a string.
 #[tactic(auto, using(crate::proofs::Laws::rooms))]
 fn put_int_key(n: Integer, writer: &mut Writer<'_>) -> Result<(), Refusal>
     ensures { Puts writer.old writer.new (item 3 (int_text (signed n.negative n.magnitude))) result }
 {
-    let size = int_len(n);
-    writer.reserve(HEADER + size)?;
-    writer.header(Kind::Str, size);
+    writer.header(Kind::Str, int_len(n))?;
     writer.digits(n);
     Ok(())
 }
 
-// What a trimmed text says, in its role.
-#[tactic(auto, using(crate::proofs::Laws::written_text))]
+// What a trimmed text says, in its role: a string is the same in both.
+#[tactic(auto, using(crate::proofs::Laws::rooms), unfolding(crate::specs::Contract::written, crate::specs::Scalars::bool_text, refusal::specs::Base::bytes, item::specs::Encode::encode))]
 fn put_scalar(said: Said<'_>, role: Role, writer: &mut Writer<'_>) -> Result<(), Refusal>
     ensures { Puts writer.old writer.new (written role (yaml_of said.entry)) result }
 {
-    match said {
-        Said::Null => put_null(role, writer),
-        Said::Bool(value) => put_bool(value, role, writer),
-        Said::Int(n) => put_int(n, role, writer),
-        Said::Text(t) => put_text(t, writer),
+    match (said, role) {
+        (Said::Text(t), _) => writer.string(t),
+        (Said::Null, Role::AsValue) => writer.null(),
+        (Said::Null, Role::AsKey) => Ok(()),
+        (Said::Bool(value), Role::AsValue) => writer.bool(value),
+        (Said::Bool(value), Role::AsKey) => writer.string(if value { b"true" } else { b"false" }),
+        (Said::Int(n), Role::AsValue) => writer.int(n),
+        (Said::Int(n), Role::AsKey) => put_int_key(n, writer),
     }
 }
 
 /// A null that nobody wrote, before the place `next`. In a key's place it takes no bytes.
 #[tactic(auto, using(crate::proofs::Laws::scalars), unfolding(crate::specs::Contract::is_key))]
-pub fn null_at(
-    s: &[u8],
-    next: usize,
-    role: Role,
-    writer: &mut Writer<'_>,
-) -> Result<Parsed, Refusal>
-    requires in_range { next ≤ length s.now }
-    ensures { (line : ℕ) → ReadsValue role (scalar (cap_of writer.old) line role writer.old.used null (drop next s.now))
-        s.now writer.old writer.new result }
+pub fn null_at(next: usize, role: Role, writer: &mut Writer<'_>) -> Result<Parsed, Refusal>
+    ensures { (line : ℕ) (s : List ℕ) → next ≤ length s → ReadsValue role (scalar (cap_of writer.old) line role writer.old.used null (drop next s))
+        s writer.old writer.new result }
 {
-    put_null(role, writer)?;
+    put_scalar(Said::Null, role, writer)?;
     Ok(Parsed { next, key: false })
 }
 

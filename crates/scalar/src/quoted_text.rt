@@ -9,7 +9,7 @@ ghost use Rattle.scalar.specs.Contract.{quoted_of, ReadsValue};
 ghost use Rattle.scalar.specs.Code.{escape_of, ReadsPiece, Spans};
 
 use super::{Parsed, Quote};
-use item::{HEADER, Kind};
+use item::Kind;
 use refusal::Refusal;
 use writer::Writer;
 
@@ -60,9 +60,7 @@ fn escape_piece(s: &[u8], i: usize, line: u32) -> Result<Piece, Refusal>
     requires { i ≤ length s.now }
     ensures { (cap : ℕ) → ReadsPiece (double_quoted cap line true) (double_quoted cap line false) cap line s.now i result }
 {
-    let Some(&escape) = s.get(i) else {
-        return Err(Refusal::EscapeCut { line });
-    };
+    let &escape = s.get(i).ok_or(Refusal::EscapeCut { line })?;
     let byte = unescaped(escape).ok_or(Refusal::UnknownEscape { line })?;
     Ok(Piece::Byte { byte, next: i + 1 })
 }
@@ -72,9 +70,7 @@ fn double_piece(s: &[u8], i: usize, line: u32) -> Result<Piece, Refusal>
     requires { i ≤ length s.now }
     ensures { (cap : ℕ) → ReadsPiece (double_quoted cap line false) (double_quoted cap line false) cap line s.now i result }
 {
-    let Some(&byte) = s.get(i) else {
-        return Err(Refusal::QuoteOpen { line });
-    };
+    let &byte = s.get(i).ok_or(Refusal::QuoteOpen { line })?;
     let next = i + 1;
     match byte {
         b'"' => Ok(Piece::Shut { next }),
@@ -89,9 +85,7 @@ fn single_piece(s: &[u8], i: usize, line: u32) -> Result<Piece, Refusal>
     requires { i ≤ length s.now }
     ensures { (cap : ℕ) → ReadsPiece (single_quoted cap line false) (single_quoted cap line false) cap line s.now i result }
 {
-    let Some(&byte) = s.get(i) else {
-        return Err(Refusal::QuoteOpen { line });
-    };
+    let &byte = s.get(i).ok_or(Refusal::QuoteOpen { line })?;
     let next = i + 1;
     if byte != b'\'' {
         return Ok(Piece::Byte { byte, next });
@@ -189,8 +183,7 @@ pub fn quoted(
         line,
     };
     let span = span_of(string)?;
-    writer.reserve(HEADER + span.size)?;
-    writer.header(Kind::Str, span.size);
+    writer.header(Kind::Str, span.size)?;
     put_content(string, span, writer);
     Ok(Parsed {
         next: span.next,

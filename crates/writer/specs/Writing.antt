@@ -1,5 +1,5 @@
 -- What a call does with a writer: the bytes that it puts behind those that are used. Assumes nothing.
-use Rattle.std.specs.Prelude.{◌≡◌, ℕ, ◌+◌, ◌-◌, ◌<◌, ◌≤◌, List, length, take}
+use Rattle.std.specs.Prelude.{◌≡◌, ℕ, ◌+◌, ◌-◌, ◌<◌, ◌≤◌, List, length, take, Result, Ok, Err}
 use Rattle.std.proofs.lemmas.List.Edits.{sets}
 use Rattle.refusal.specs.declared.Refusal.{Refusal}
 use Rattle.refusal.specs.declared.Refusal.TheVariants.{WorkTooShort}
@@ -50,3 +50,8 @@ pub record Lacks (old new : Writer) (bytes : List ℕ) (e : Refusal) : Type 0 wh
   pub is : e ≡ WorkTooShort
   pub short : room_of old < length bytes
   pub same : new ≡ old
+
+-- bytes are put behind those that are used; or they have no room, and nothing is
+abbrev pub Puts : Writer → Writer → List ℕ → Result (Unit {0}) Refusal → Type 0
+Puts old new bytes (Ok done) = Appends old new bytes
+Puts old new bytes (Err e) = Lacks old new bytes e

@@ -33,7 +33,7 @@ impl<'a> Writer<'a> {
 
 impl Writer<'_> {
     ghost use Rattle.item.specs.Kinds.{number_of};
-    ghost use Rattle.writer.specs.Writing.{room_of, Appends, Begins, Fills, CutsBack};
+    ghost use Rattle.writer.specs.Writing.{room_of, Appends, Puts, Begins, Fills, CutsBack};
 
     /// How many bytes are used.
     pub fn used(&self) -> usize
@@ -51,8 +51,8 @@ impl Writer<'_> {
         }
     }
 
-    /// Whether so many bytes more fit.
-    pub fn reserve(&self, bytes: usize) -> Result<(), Refusal>
+    // Whether so many bytes more fit.
+    fn reserve(&self, bytes: usize) -> Result<(), Refusal>
         ensures { MatchResult result (λ _. bytes ≤ room_of self.now)
             (λ e. (room_of self.now < bytes) × (e ≡ Refusal.WorkTooShort)) }
     {
@@ -105,55 +105,61 @@ impl Writer<'_> {
         self.used += int_len(n);
     }
 
-    /// The header of an item whose content, of so many bytes, is still to be put.
+    /// The header of an item whose content, of so many bytes, is still to be put. Nothing is put where both together have no room.
     #[tactic(auto, using(crate::proofs::Sizes::sizes))]
-    pub fn header(&mut self, kind: Kind, size: usize)
-        requires room { 6 ≤ room_of self.old }
-        requires small { size < 2 ^ 32 }
-        ensures { Appends self.old self.new (head (number_of kind) size) }
+    pub fn header(&mut self, kind: Kind, size: usize) -> Result<(), Refusal>
+        requires { size ≤ 2 ^ 63 }
+        ensures { MatchResult result (λ _. Appends self.old self.new (head (number_of kind) size) × (size ≤ room_of self.new))
+            (λ e. (room_of self.old < 6 + size) × (e ≡ Refusal.WorkTooShort) × (self.new ≡ self.old)) }
     {
+        self.reserve(HEADER + size)?;
         item::put_header(self.out, self.used, kind as usize, size);
         self.used += HEADER;
+        Ok(())
     }
 
-    /// Puts an item, here and in the next three: its header and its content.
+    /// Puts an item, here and in the next three: its header and its content. Nothing is put where they have no room.
     #[tactic(auto, using(crate::proofs::Sizes::sizes))]
-    pub fn null(&mut self)
-        requires { 6 ≤ room_of self.old }
-        ensures { Appends self.old self.new (encode null) }
+    pub fn null(&mut self) -> Result<(), Refusal>
+        ensures { Puts self.old self.new (encode null) result }
     {
+        self.reserve(HEADER)?;
         item::put_null(self.out, self.used);
         self.used += HEADER;
+        Ok(())
     }
 
     /// Its content is one byte, 0 or 1.
     #[tactic(auto, using(crate::proofs::Sizes::sizes))]
-    pub fn bool(&mut self, value: bool)
-        requires { 7 ≤ room_of self.old }
-        ensures { Appends self.old self.new (encode (bool value)) }
+    pub fn bool(&mut self, value: bool) -> Result<(), Refusal>
+        ensures { Puts self.old self.new (encode (bool value)) result }
     {
+        self.reserve(HEADER + 1)?;
         item::put_bool(self.out, self.used, value);
         self.used += HEADER + 1;
+        Ok(())
     }
 
     /// Its content is eight bytes, little-endian, in two's complement.
     #[tactic(auto, using(crate::proofs::Sizes::sizes))]
-    pub fn int(&mut self, n: Integer)
-        requires { 14 ≤ room_of self.old }
-        ensures { Appends self.old self.new (encode (int (signed n.negative n.magnitude))) }
+    pub fn int(&mut self, n: Integer) -> Result<(), Refusal>
+        ensures { Puts self.old self.new (encode (int (signed n.negative n.magnitude))) result }
     {
+        self.reserve(HEADER + 8)?;
         item::put_int(self.out, self.used, n);
         self.used += HEADER + 8;
+        Ok(())
     }
 
     /// Its content is the bytes themselves.
     #[tactic(auto, using(crate::proofs::Sizes::sizes))]
-    pub fn string(&mut self, bytes: &[u8])
-        requires { 6 + length bytes.now ≤ room_of self.old }
-        ensures { Appends self.old self.new (encode (str bytes.now)) }
+    pub fn string(&mut self, bytes: &[u8]) -> Result<(), Refusal>
+        ensures { Puts self.old self.new (encode (str bytes.now)) result }
     {
+        self.reserve(HEADER + bytes.len())?;
         item::put_string(self.out, self.used, bytes);
         self.used += HEADER + bytes.len();
+        Ok(())
     }
 
     /// Takes the six bytes of a header, which `end` fills in, and tells where they are.

@@ -32,7 +32,7 @@ entry-returns t c =
     let k = c.skip_spaces-colon in
     let d = c.skip_spaces in
     let h : k.result < length a.s.now = omega (arith, k.ensures.in_range, c.if-colon-s.false) in
-    entry_ends_so a.s.now a.i a.site.line a.site.levels a.writer.now _ _ _ c.in_ok-key.ensures (not-false _ c.if-not-key.false) k.result k.ensures.rest h c.if-s-colon-ne58.false d.result d.ensures.rest
+    entry_ends_so a.s.now a.i a.site.number a.site.levels a.writer.now _ _ _ c.in_ok-key.ensures (not-false _ c.if-not-key.false) k.result k.ensures.rest h c.if-s-colon-ne58.false d.result d.ensures.rest
     c.requires k.ensures.forward (omega (arith, d.ensures.forward)) d.ensures.in_range _ _ c.entry_value.ensures
 
 -- ---- a mapping
@@ -41,14 +41,14 @@ pub mapping-returns-then-repeats : goal.mapping-returns-then-repeats
 mapping-returns-then-repeats t c =
     let a = c.args in
     let w = c.entries-end.new.writer in
-    mapping_twice a.s.now _ a.site.line a.writer.now w _ c.entries-end.ensures c.repeats.result (λ es l.
+    mapping_twice a.s.now _ a.site.number a.writer.now w _ c.entries-end.ensures c.repeats.result (λ es l.
     c.repeats.ensures es (lies_in_written es c.part.ensures.bytes c.part.ensures.places c.used-first.ensures c.used.ensures c.written.ensures w.within l)) c.if-repeats.true
 
 pub mapping-returns : goal.mapping-returns
 mapping-returns t c =
     let a = c.args in
     let w = c.entries-end.new.writer in
-    mapping_done a.s.now _ a.site.line a.writer.now w _ c.entries-end.ensures c.repeats.result (λ es l.
+    mapping_done a.s.now _ a.site.number a.writer.now w _ c.entries-end.ensures c.repeats.result (λ es l.
     c.repeats.ensures es (lies_in_written es c.part.ensures.bytes c.part.ensures.places c.used-first.ensures c.used.ensures c.written.ensures w.within l)) c.if-repeats.false
 
 -- ---- a sequence
@@ -84,7 +84,7 @@ pub value-returns-then-i-s : goal.value-returns-then-i-s
 value-returns-then-i-s t c =
     let a = c.args in
     let w = a.writer.now in
-    reads_as a.role _ _ a.s.now w _ _ (value-end a.s.now a.i (cap_of w) a.site.line a.site.levels (is_in_flow a.stops) a.role w.used c.if-i-s.true) (c.null_at.ensures a.site.line)
+    reads_as a.role _ _ a.s.now w _ _ (value-end a.s.now a.i (cap_of w) a.site.number a.site.levels (is_in_flow a.stops) a.role w.used c.if-i-s.true) (c.null_at.ensures a.site.number a.s.now (omega arith))
 
 pub value-returns-in-123 : goal.value-returns-in-123
 value-returns-in-123 t c = c.collection.ensures (is_in_flow c.args.stops) c.args.role
@@ -93,17 +93,17 @@ pub value-returns-in-34 : goal.value-returns-in-34
 value-returns-in-34 t c =
     let a = c.args in
     let w = a.writer.now in
-    reads_as a.role _ _ a.s.now w _ _ (value-double a.s.now a.i (cap_of w) a.site.line a.site.levels (is_in_flow a.stops) a.role w.used (omega (arith, c.if-i-s.false)) c.in-34.is) (c.quoted.ensures a.role)
+    reads_as a.role _ _ a.s.now w _ _ (value-double a.s.now a.i (cap_of w) a.site.number a.site.levels (is_in_flow a.stops) a.role w.used (omega (arith, c.if-i-s.false)) c.in-34.is) (c.quoted.ensures a.role)
 
 pub value-returns-in-39 : goal.value-returns-in-39
 value-returns-in-39 t c =
     let a = c.args in
     let w = a.writer.now in
-    reads_as a.role _ _ a.s.now w _ _ (value-single a.s.now a.i (cap_of w) a.site.line a.site.levels (is_in_flow a.stops) a.role w.used (omega (arith, c.if-i-s.false)) c.in-39.is) (c.quoted-in-39.ensures a.role)
+    reads_as a.role _ _ a.s.now w _ _ (value-single a.s.now a.i (cap_of w) a.site.number a.site.levels (is_in_flow a.stops) a.role w.used (omega (arith, c.if-i-s.false)) c.in-39.is) (c.quoted-in-39.ensures a.role)
 
 pub value-returns-in_default : goal.value-returns-in_default
 value-returns-in_default t c =
     let a = c.args in
     let w = a.writer.now in
-    reads_as a.role _ _ a.s.now w _ _ (value-plain a.s.now a.i (cap_of w) a.site.line a.site.levels (is_in_flow a.stops) a.role w.used (omega (arith, c.if-i-s.false))
-    (search rules) (search rules) (search rules) (search rules)) (c.plain.ensures a.site.line)
+    reads_as a.role _ _ a.s.now w _ _ (value-plain a.s.now a.i (cap_of w) a.site.number a.site.levels (is_in_flow a.stops) a.role w.used (omega (arith, c.if-i-s.false))
+    (search rules) (search rules) (search rules) (search rules)) (c.plain.ensures a.site.number)

@@ -25,13 +25,13 @@ abbrev pub decreases-value : goal.decreases-value
 decreases-value l = 6 * l.site.levels + 1
 
 abbrev pub invariant-entries-loop-site : goal.invariant-entries-loop-site
-invariant-entries-loop-site l = Mapped l.s l.start l.site.levels l.site.line l.fn.writer l.writer l.next
+invariant-entries-loop-site l = Mapped l.s l.start l.site.levels l.site.number l.fn.writer l.writer l.next
 
 abbrev pub decreases-entries-loop-site : goal.decreases-entries-loop-site
 decreases-entries-loop-site l = length l.s - l.next
 
 abbrev pub invariant-sequence-loop-site : goal.invariant-sequence-loop-site
-invariant-sequence-loop-site l = Listed l.s l.start l.site.levels l.site.line l.fn.writer l.writer l.next
+invariant-sequence-loop-site l = Listed l.s l.start l.site.levels l.site.number l.fn.writer l.writer l.next
 
 abbrev pub decreases-sequence-loop-site : goal.decreases-sequence-loop-site
 decreases-sequence-loop-site l = length l.s - l.next + (l.fn.writer.used + 1 - l.writer.used)

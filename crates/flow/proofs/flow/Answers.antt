@@ -16,6 +16,6 @@ returns-else-skip_spaces-s c =
     let line : p.line.now ≡ a.s.now = cc in
     let behind : drop p.at p.line.now ≡ skip_spaces (drop 0 a.s.now) = cc in
     let levels : p.levels ≡ a.levels = cc in
-    let r : WroteValue a.role (value (cap_of w) a.line a.levels false a.role w.used (skip_spaces a.s.now)) a.s.now w c.value.new.writer c.in_ok-read.read.next c.in_ok-read.read.key
+    let r : WroteValue a.role (value (cap_of w) a.number a.levels false a.role w.used (skip_spaces a.s.now)) a.s.now w c.value.new.writer c.in_ok-read.read.next c.in_ok-read.read.key
     = rw (behind, levels, line) at c.in_ok-read.ensures in
-    part_more a.s.now a.line a.levels a.role w _ _ _ r k.result k.ensures.rest (omega (arith, k.ensures.in_range, c.if-skip_spaces-s.false))
+    part_more a.s.now a.number a.levels a.role w _ _ _ r k.result k.ensures.rest (omega (arith, k.ensures.in_range, c.if-skip_spaces-s.false))

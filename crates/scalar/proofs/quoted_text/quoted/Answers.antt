@@ -3,7 +3,7 @@ use Rattle.std.proofs.Common.{refl, sym, ap, ◌∙◌, arith}
 use Rattle.refusal.proofs.Tools.{err_is}
 use Rattle.item.proofs.Size.{item-length}
 use Rattle.writer.specs.Writing.{cap_of}
-use Rattle.writer.proofs.Laws.{appends_item, header_used, len_appended, keeps_same}
+use Rattle.writer.proofs.Laws.{appends_item, keeps_same}
 use Rattle.scalar.specs.Contract.{quoted_of}
 use Rattle.scalar.specs.Read.{string}
 use Rattle.scalar.proofs.QuoteLaws.{string-refused, wrote_string, refused_string}
@@ -18,22 +18,20 @@ returns-in_err-span c =
       keeps = keeps_same refl;
     })
 
-pub overflow_add-span : goal.overflow_add-span
-overflow_add-span c = let k = c.in_ok-span.ensures 0 in omega (arith, k.within)
+pub header-requires : goal.header-requires
+header-requires c = let k = c.in_ok-span.ensures 0 in omega (arith, k.within)
 
-pub returns-in_err-reserve : goal.returns-in_err-reserve
-returns-in_err-reserve c =
+pub returns-in_err-header : goal.returns-in_err-header
+returns-in_err-header c =
     let a = c.args in
     let w = a.writer.now in
     let k = c.in_ok-span.ensures (cap_of w) in
-    λ role. rw (err_is _ c.from_residual-in_err-reserve.ensures.1) (refused_string role (quoted_of a.quote (cap_of w) a.line) a.s.now w w a.line a.i _ _ k _
-    (record { is = c.in_err-reserve.ensures.1; short = omega (arith, c.in_err-reserve.ensures.0, k.long, item-length 3 k.content); same = refl }))
+    let e = c.in_err-header.ensures in
+    λ role. rw (err_is _ c.from_residual-in_err-header.ensures.1) (refused_string role (quoted_of a.quote (cap_of w) a.line) a.s.now w _ a.line a.i _ _ k _
+    (record { is = e.1; short = omega (arith, e.0, k.long, item-length 3 k.content); same = e.2 }))
 
 pub put_content-requires-clause-in_range : goal.put_content-requires-clause-in_range
 put_content-requires-clause-in_range c = let k = c.in_ok-span.ensures 0 in (k.within, k.forward)
-
-pub put_content-requires-clause-room : goal.put_content-requires-clause-room
-put_content-requires-clause-room c = omega (arith, c.in_ok-reserve.ensures, header_used _ _ c.header.ensures, len_appended c.header.ensures)
 
 pub returns : goal.returns
 returns c =
@@ -41,4 +39,4 @@ returns c =
     let w = a.writer.now in
     let k = c.in_ok-span.ensures (cap_of w) in
     λ role. wrote_string role (quoted_of a.quote (cap_of w) a.line) a.s.now w _ a.line a.i _ _ k
-    (appends_item 3 _ c.header.ensures (c.put_content.ensures (cap_of w) k.content k.is k.long) (sym k.long))
+    (appends_item 3 _ c.in_ok-header.ensures.0 (c.put_content.ensures (cap_of w) k.content k.is k.long) (sym k.long))
