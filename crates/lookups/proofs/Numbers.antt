@@ -161,12 +161,7 @@ module _ (b : List ℕ) (number : ℕ) where
       bound (opened b) _ f (sym e) λ m p q.
       bound (numbered_step m number) _ f q λ x u v.
       let k = known b (bytes_of b small) number m x p u in
-      record {
-        at = x.0;
-        step_is = record { meaning = m; is = p; step = x.1; found = u; there = k };
-        part_is = cc v;
-        small = omega (arith, k.small, k.size, k.stands.within);
-      }
+      record { at = x.0; step_is = record { meaning = m; is = p; step = x.1; found = u; there = k }; part_is = cc v; small = omega (arith, k.small, k.size, k.stands.within) }
 
   pub value-small : ((i : ℕ) → get_or b i 0 < 256) → (key : List ℕ) (r : StdOption Span) → span_of r ≡ value_by_key b number key → number ≤ limit
   value-small small key (Some x) e = (sought small key _ e).small
