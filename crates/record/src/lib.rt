@@ -25,6 +25,9 @@ const FIELD_LEVELS: usize = 31;
 // What a step holds stands in that mapping, in the sequence of its steps, and in the step's own mapping.
 const STEP_LEVELS: usize = 29;
 
+/// How many fields a record has; the last holds the steps.
+pub const FIELDS: usize = 8;
+
 /// What the check of a record answers.
 // An enum of its own, as each public job answers: what it tells has names, and the definitions name its cases.
 #[derive(Clone, Copy, Debug, PartialEq, Eq)]
@@ -272,7 +275,7 @@ fn field_at(record: &[u8], place: usize) -> Result<Option<Span>, Refusal>
     ensures { looked_of result ≡ definition.field «record».now place }
 {
     checked(record)?;
-    if !(1..=8).contains(&place) {
+    if !(1..=FIELDS).contains(&place) {
         return Err(Refusal::OutOfRange);
     }
     Ok(nth_item(record, HEADER, place - 1))
@@ -290,7 +293,7 @@ pub fn steps_of(record: &[u8]) -> Result<StepItems<'_>, Refusal>
     ensures { MatchResult result (StepsOf «record».now) (λ e. refusal e ≡ definition.check_record «record».now) }
 {
     let count = checked(record)?;
-    let list = nth_item(record, HEADER, 7).ok_or(Refusal::Malformed)?;
+    let list = nth_item(record, HEADER, FIELDS - 1).ok_or(Refusal::Malformed)?;
     let record = Encoded { bytes: record };
     Ok(StepItems {
         count,
