@@ -150,12 +150,9 @@ fn white_before(s: &[u8], from: usize, to: usize) -> usize
     requires { (from ≤ to) × (to ≤ length s.now) }
     ensures { Ends s.now from to result }
 {
-    for n in 1..4 {
-        if n <= to - from && white_at(s, to - n, to) == n {
-            return n;
-        }
-    }
-    0
+    (1..4)
+        .find(|&n| n <= to - from && white_at(s, to - n, to) == n)
+        .unwrap_or(0)
 }
 
 /// Where the leading white space of a part ends.
