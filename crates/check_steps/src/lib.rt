@@ -154,9 +154,7 @@ fn check_step(s: Encoded<'_>, from: usize, site: Site<'_>) -> Result<(), Refusal
     ensures { (ns : List (List ℕ)) → filled site.entry.names.now ≡ some ns → (at : ℕ) (x : Step) → from ≡ at + 6 → Ranged x.value
         → Stands s.entry.bytes.now at (step_item x) → told_of result ≡ check_step ns site.entry.line site.entry.number x }
 {
-    let Some(key) = nth_item(s.bytes, from, 2) else {
-        return Err(Refusal::Malformed);
-    };
+    let key = nth_item(s.bytes, from, 2).ok_or(Refusal::Malformed)?;
     let command = &s.bytes[key.start + HEADER..key.end];
     if !is_known(site.names, command) {
         return Err(Refusal::UnknownCommand {
@@ -167,9 +165,7 @@ fn check_step(s: Encoded<'_>, from: usize, site: Site<'_>) -> Result<(), Refusal
     if !same_bytes(command, b"repeat") {
         return Ok(());
     }
-    let Some(value) = Node::at(s, key.end) else {
-        return Err(Refusal::Malformed);
-    };
+    let value = Node::at(s, key.end).ok_or(Refusal::Malformed)?;
     check_repeat(value, site)
 }
 

@@ -1,5 +1,5 @@
 -- What the two lookups find in a good record. Assumes nothing.
-use Rattle.std.proofs.Common.{◌≡◌, refl, sym, ap, ◌∙◌, ℕ, zero, suc, ◌+◌, ◌-◌, ◌≤◌, ◌<◌, arith, List, [], ◌⊎◌, inl, inr, Bor, Bool, true, false, leb, length, take, get_or, length-append, length-drop, leb-true, leb-false}
+use Rattle.std.proofs.Common.{◌≡◌, refl, sym, ap, ◌∙◌, ℕ, zero, suc, ◌+◌, ◌-◌, ◌≤◌, ◌<◌, arith, List, [], Bor, Bool, true, false, leb, length, take, get_or, length-append, length-drop, leb-true, leb-false}
 use Rattle.std.proofs.Math.ListN.{get_or-eq_default}
 use Rattle.refusal.specs.Base.{Answer, good, refused}
 use Rattle.item.proofs.Size.{item-length}
@@ -111,12 +111,13 @@ module _ {b : List ℕ} {n : ℕ} (g : GoodRecord b n) where
 -- ---- what a lookup finds by one number
 
 module _ {answers : Bor (List ℕ) → ℕ → Lookup → Type 0} {count from : ℕ} {lent : Bor (List ℕ)} (w : Parts answers lent.now count from) {number : ℕ} {found : Lookup} (a : answers lent number found) where
-  pub not-numbered : (number ≡ 0) ⊎ ((number ≡ 0 → ⊥) × (count < number)) → out_of_range (lookup_of found) ≡ true
+  pub not-numbered : ((i : ℕ) → number ≡ suc i → count ≤ i) → out_of_range (lookup_of found) ≡ true
   unfolding out_of_range numbered
-  not-numbered (inl e) = let q : lookup_of found ≡ refused 53 0 0 = w.is lent refl number found a ∙ ap (numbered from w.parts) e in rw q
-  not-numbered (inr h) =
-      let q : lookup_of found ≡ refused 53 0 0 = w.is lent refl number found a ∙ numbered-out from w.parts number (number - 1) (omega arith) (omega (arith, w.many)) in
-      rw q
+  not-numbered h = rw (w.is lent refl number found a) (go number h)
+    where
+      go : (n : ℕ) → ((i : ℕ) → n ≡ suc i → count ≤ i) → out_of_range (numbered from w.parts n) ≡ true
+      go zero h = refl
+      go (suc i) h = rw (numbered-out from w.parts (suc i) i refl (omega (arith, h i refl, w.many))) refl
 
   pub found-part : 1 ≤ number → number ≤ count
       → lookup_of found ≡ good (part (from + length (joined (take (number - 1) w.parts))) (from + length (joined (take number w.parts))))

@@ -17,7 +17,7 @@ ghost use Rattle.demands.specs.Demands.{TreeEnds, TellsRefusal, Compares, lacks,
 ghost use Rattle.demands.specs.Demands.{ItemShown, step_items, TextItem};
 
 use item::{HEADER, same_bytes};
-use record::{Lookup, RecordAnswer, check_record, field, part, step};
+use record::{FIELDS, Lookup, RecordAnswer, check_record, field, part, step};
 use refusal::{Refusal, Told};
 use scenario::{ScenarioAnswer, read_scenario};
 use tree::{TreeAnswer, read_tree};
@@ -78,10 +78,7 @@ pub fn told(text: &[u8], work: &mut [u8], record: &mut [u8], lines: &mut [u32]) 
 fn is_good(record: &[u8], steps: usize) -> bool
     ensures { result ≡ is_good «record».now steps }
 {
-    match check_record(record) {
-        RecordAnswer::Good { steps: n } => n == steps,
-        RecordAnswer::Refused(_) => false,
-    }
+    check_record(record) == RecordAnswer::Good { steps }
 }
 
 /// Whether the record of a text that is read is good, with as many steps as were told.
@@ -263,10 +260,7 @@ fn refuses_others<L: Fn(&[u8], usize) -> Lookup>(
     requires parts { (from : _) × Parts (L.post find) «record».now count from }
     ensures { result ≡ true }
 {
-    if number == 0 || number > count {
-        return is_out_of_range(find(record, number));
-    }
-    true
+    (1..=count).contains(&number) || is_out_of_range(find(record, number))
 }
 
 /// Whether a good record has every place but 1 to 8 refused with 53.
@@ -275,7 +269,7 @@ pub fn refuses_other_places(record: &[u8], place: usize) -> bool
     ensures { result ≡ true }
 {
     match check_record(record) {
-        RecordAnswer::Good { .. } => refuses_others(record, field, 8, place),
+        RecordAnswer::Good { .. } => refuses_others(record, field, FIELDS, place),
         RecordAnswer::Refused(_) => true,
     }
 }
@@ -316,8 +310,8 @@ pub fn lookups_fill(record: &[u8]) -> bool
     let RecordAnswer::Good { steps } = check_record(record) else {
         return true;
     };
-    let Lookup::Found { start, .. } = field(record, 8) else {
+    let Lookup::Found { start, .. } = field(record, FIELDS) else {
         return false;
     };
-    fill(record, field, 8, HEADER) && fill(record, step, steps, start + HEADER)
+    fill(record, field, FIELDS, HEADER) && fill(record, step, steps, start + HEADER)
 }

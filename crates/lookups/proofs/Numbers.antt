@@ -1,10 +1,12 @@
 -- The steps of a record: all of them, the one with a number, and what stands beside a key of it. Assumes nothing.
+use Rattle.std.specs.Prelude.{Option as StdOption, Some, None}
 use Rattle.std.proofs.Common.{◌≡◌, refl, sym, ap, ◌∙◌, subst, ℕ, zero, suc, ◌+◌, ◌≤◌, ◌<◌, Bool, true, false, ltb, List, [], ◌∷◌, map, length, get_or, arith, ltb-false, ltb-true}
 use Rattle.std.proofs.Math.Option.{Option, none, some}
 use Rattle.refusal.specs.Base.{Answer, good, refused, ◌>>=◌, given, maybe, bytes, limit}
 use Rattle.refusal.proofs.Tools.{bound, gave, refused≢good, refused-as, bind-cong}
 use Rattle.item.specs.Tree.{Yaml, Ranged}
 use Rattle.item.specs.Encode.{Bytes}
+use Rattle.entries.specs.declared.Span.{Span}
 use Rattle.entries.specs.Entries.{Stands}
 use Rattle.meaning.specs.Meaning.{Step, Meaning}
 use Rattle.meaning.specs.Record.{step_item}
@@ -14,6 +16,7 @@ use Rattle.value.proofs.Levels.{ranged}
 use Rattle.record.specs.Read.{meaning_in}
 use Rattle.record.specs.Jobs as job
 use Rattle.record.specs.Jobs.{Found, nothing, part, opened, check_record, part_at, numbered, steps_start}
+use Rattle.record.specs.Contract.{span_of}
 use Rattle.record.proofs.Exact.{meaning-exact}
 use Rattle.record.proofs.Lookups.{Opened, length-steps, closed, step_is, numbered-in, numbered-out}
 use Rattle.record.proofs.Answers.{never-nothing}
@@ -150,20 +153,26 @@ module _ (b : List ℕ) (number : ℕ) where
     at : ℕ
     step_is : Numbered b number at
     part_is : f ≡ item_part (value_in key at step_is.step)
+    small : number ≤ limit
 
   sought : ((i : ℕ) → get_or b i 0 < 256) → (key : List ℕ) (f : Found) → good f ≡ value_by_key b number key → Sought key f
   unfolding value_by_key
   sought small key f e =
       bound (opened b) _ f (sym e) λ m p q.
       bound (numbered_step m number) _ f q λ x u v.
-      record { at = x.0; step_is = record { meaning = m; is = p; step = x.1; found = u; there = known b (bytes_of b small) number m x p u }; part_is = cc v }
+      let k = known b (bytes_of b small) number m x p u in
+      record { at = x.0; step_is = record { meaning = m; is = p; step = x.1; found = u; there = k }; part_is = cc v; small = omega (arith, k.small, k.size, k.stands.within) }
 
-  pub times-missing : ((i : ℕ) → get_or b i 0 < 256) → good nothing ≡ value_by_key b number (bytes "times") → (refused 38 0 number ≡ times b number) × (number ≤ limit)
+  pub value-small : ((i : ℕ) → get_or b i 0 < 256) → (key : List ℕ) (r : StdOption Span) → span_of r ≡ value_by_key b number key → number ≤ limit
+  value-small small key (Some x) e = (sought small key _ e).small
+  value-small small key None e = (sought small key _ e).small
+
+  pub times-missing : ((i : ℕ) → get_or b i 0 < 256) → good nothing ≡ value_by_key b number (bytes "times") → refused 38 0 number ≡ times b number
   unfolding times given ◌>>=◌ item_part maybe
   times-missing small e =
       let w = sought small (bytes "times") nothing e in
       let n = w.step_is in
-      (rw (n.is, n.found) (go (value_in (bytes "times") w.at n.step) w.part_is), omega (arith, n.there.small, n.there.size, n.there.stands.within))
+      rw (n.is, n.found) (go (value_in (bytes "times") w.at n.step) w.part_is)
     where
       go : (o : Option (ℕ × Yaml)) → nothing ≡ item_part o → refused 38 0 number ≡ (given o 38 0 number >>= λ (x : ℕ × Yaml). times_in number x.1)
       go none e = refl
@@ -175,7 +184,6 @@ module _ (b : List ℕ) (number : ℕ) where
     pub found : FoundValue b start value
     pub is : times_in number value ≡ times b number
     pub size : length b ≤ limit
-    pub small : number ≤ limit
 
   pub times-found : ((i : ℕ) → get_or b i 0 < 256) → {start end : ℕ} → good (part start end) ≡ value_by_key b number (bytes "times") → TimesAt start
   unfolding times given ◌>>=◌ item_part maybe
@@ -196,5 +204,4 @@ module _ (b : List ℕ) (number : ℕ) where
             found = subst (λ (i : ℕ). FoundValue b i x.1) a (in-step-found (bytes "times") n.step n.there.value n.there.stands p);
             is = sym (rw (n.is, n.found, p));
             size = n.there.size;
-            small = omega (arith, n.there.small, n.there.size, n.there.stands.within);
           }

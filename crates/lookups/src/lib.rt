@@ -171,13 +171,11 @@ fn times_at(s: Encoded<'_>, at: usize, number: u32) -> Result<u32, Refusal>
 fn told_times(record: &[u8], number: usize) -> Result<u32, Refusal>
     ensures { told_of result ≡ definition.times «record».now number }
 {
-    let Some(times) = beside_key(record, number, b"times")? else {
-        return Err(Refusal::TimesNotPositive {
-            step: number as u32,
-        });
-    };
+    let found = beside_key(record, number, b"times")?;
+    let step = number as u32;
+    let times = found.ok_or(Refusal::TimesNotPositive { step })?;
     let record = Encoded { bytes: record };
-    times_at(record, times.start, number as u32)
+    times_at(record, times.start, step)
 }
 
 /// How often the step with this number is repeated, which its `times` says: an integer from 1 to 4,294,967,295. Refused where there is

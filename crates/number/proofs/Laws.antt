@@ -1,5 +1,6 @@
 -- Decimal digits, read from the front and written from the end. Assumes nothing.
 use Rattle.std.specs.Prelude.{if◌then◌else◌}
+use Rattle.std.specs.Bool.{then_some}
 use Rattle.std.proofs.Common.{◌≡◌, refl, ap, ◌∙◌, ℕ, zero, suc, ◌+◌, ◌*◌, ◌-◌, ◌/◌, ◌%◌, ◌^◌, ◌≤◌, ◌<◌, pow-suc, add-one, arith, List, [], ◌∷◌, ◌++◌, Bool, true, false, ◌&&◌, not, ltb, eqb, length, set, drop, get_or, drop_of_length-le, length-append, drop-cons, leb, lt-ltb, le-ltb, le-leb, eq-eqb, ne_eqb, ltb-true, ltb-false}
 use Rattle.std.proofs.Math.Bool.{and-true, and-false}
 use Rattle.std.proofs.Math.Option.{Option, none, some}
@@ -12,7 +13,17 @@ use Rattle.std.specs.Char.{is_ascii_digit}
 use Rattle.item.specs.Encode.{signed}
 use Rattle.item.proofs.Runs.{sets-before}
 use Rattle.number.specs.Integers.{is_digit, all_digits, decimal_from, zero_first, digits, positive, negative, integer, decimal_of, int_text}
-use Rattle.number.specs.Code.{at_most, bounded, minused}
+use Rattle.number.specs.Code.{number_of, at_most, bounded, minused}
+
+-- ---- a number that is kept where it is at most the limit
+
+pub bounded-by : (limit n : ℕ) → number_of (then_some (leb n limit) n) ≡ at_most limit (some n)
+unfolding at_most
+bounded-by limit n = go (leb n limit)
+  where
+    go : (b : Bool) → number_of (then_some b n) ≡ (if b then some n else none)
+    go true = refl
+    go false = refl
 
 -- ---- digits that are read
 

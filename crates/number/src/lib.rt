@@ -31,7 +31,7 @@ fn digits(t: &[u8], limit: u64) -> Option<u64>
         }
         number = number.checked_mul(10)?.checked_add(u64::from(b - b'0'))?;
     }
-    if number <= limit { Some(number) } else { None }
+    (number <= limit).then_some(number)
 }
 
 // Whether a text has a minus, the digits behind it, and the most that they may make.

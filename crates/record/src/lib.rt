@@ -25,6 +25,9 @@ const FIELD_LEVELS: usize = 31;
 // What a step holds stands in that mapping, in the sequence of its steps, and in the step's own mapping.
 const STEP_LEVELS: usize = 29;
 
+/// How many fields a record has; the last holds the steps.
+pub const FIELDS: usize = 8;
+
 /// What the check of a record answers.
 // An enum of its own, as each public job answers: what it tells has names, and the definitions name its cases.
 #[derive(Clone, Copy, Debug, PartialEq, Eq)]
@@ -76,27 +79,27 @@ pub fn are_texts(s: &[u8]) -> bool
 // what reads the fields names it after the one that begins there.
 
 #[tactic(auto, using(value::proofs::Headers::item_there, value::proofs::Headers::no_item_there, crate::proofs::Headers::item_ends, crate::proofs::Headers::no_item_ends))]
-fn item_of(s: &[u8], at: usize, kind: Kind) -> Option<usize>
-    ensures { ItemEnds (number_of kind) s.now at result }
+fn item_of(s: Encoded<'_>, at: usize, kind: Kind) -> Option<usize>
+    ensures { ItemEnds (number_of kind) s.entry.bytes.now at result }
 {
-    let item = header_at(s, at).ok()?;
+    let item = header_at(s.bytes, at).ok()?;
     item.is(kind).then_some(item.to)
 }
 
 #[tactic(auto, using(value::proofs::Headers::item_there, value::proofs::Headers::no_item_there, crate::proofs::Views::text_ends, crate::proofs::Views::no_text_ends))]
-fn text_at(s: &[u8], at: usize) -> Option<usize>
-    ensures { Walks (field_of as_text 0) s.now at result }
+fn text_at(s: Encoded<'_>, at: usize) -> Option<usize>
+    ensures { Walks (field_of as_text 0) s.entry.bytes.now at result }
 {
-    let item = header_at(s, at).ok()?;
-    is_text(s, item).then_some(item.to)
+    let item = header_at(s.bytes, at).ok()?;
+    is_text(s.bytes, item).then_some(item.to)
 }
 
-#[tactic(auto, using(crate::proofs::Views::no_text, crate::proofs::Views::command_ends, item::proofs::Exact::bytes_of))]
-fn command_at(s: &[u8], at: usize) -> Option<usize>
-    ensures { Walks (field_of as_command 0) s.now at result }
+#[tactic(auto, using(crate::proofs::Views::no_text, crate::proofs::Views::command_ends))]
+fn command_at(s: Encoded<'_>, at: usize) -> Option<usize>
+    ensures { Walks (field_of as_command 0) s.entry.bytes.now at result }
 {
     let end = text_at(s, at)?;
-    let is_command = !is_step_field(&s[at + HEADER..end]);
+    let is_command = !is_step_field(&s.all()[at + HEADER..end]);
     is_command.then_some(end)
 }
 
@@ -147,10 +150,10 @@ fn expect_at(s: Encoded<'_>, at: usize, command: &[u8]) -> Option<usize>
 // `Option<()>`, so that it is asked by `?` as each field is.
 
 // Whether the last field ends where the bytes do.
-fn filled(s: &[u8], end: usize) -> Option<()>
-    ensures { is_there result ≡ eqb end (length s.now) }
+fn filled(s: Encoded<'_>, end: usize) -> Option<()>
+    ensures { is_there result ≡ eqb end (length s.entry.bytes.now) }
 {
-    (end == s.len()).then_some(())
+    (end == s.bytes.len()).then_some(())
 }
 
 fn defaults(s: Encoded<'_>) -> Option<()>
@@ -158,20 +161,20 @@ fn defaults(s: Encoded<'_>) -> Option<()>
 {
     let wall_budget = optional_at(s, 0)?;
     let end = optional_at(s, wall_budget)?;
-    filled(s.bytes, end)
+    filled(s, end)
 }
 
 fn step_content(s: Encoded<'_>) -> Option<()>
     ensures { is_there result ≡ is_step s.entry.bytes.now }
 {
-    let id = text_at(s.bytes, 0)?;
-    let command = text_at(s.bytes, id)?;
-    let value = command_at(s.bytes, command)?;
+    let id = text_at(s, 0)?;
+    let command = text_at(s, id)?;
+    let value = command_at(s, command)?;
     let timeout = value_at(s, value, STEP_LEVELS)?;
     let continues = optional_at(s, timeout)?;
     let expect = flag_at(s, continues)?;
     let end = expect_at(s, expect, &s.all()[command + HEADER..value])?;
-    filled(s.bytes, end)
+    filled(s, end)
 }
 
 #[tactic(auto, using(value::proofs::Headers::ok_item, item::proofs::Turns::placed))]
@@ -195,11 +198,11 @@ fn steps(s: Encoded<'_>) -> Option<usize>
 fn rest(s: Encoded<'_>, at: usize) -> Option<usize>
     ensures { count_of result ≡ rest_steps (drop at s.entry.bytes.now) }
 {
-    let fail_on = item_of(s.bytes, at, Kind::Defaults)?;
+    let fail_on = item_of(s, at, Kind::Defaults)?;
     defaults(s.slice(at + HEADER, fail_on))?;
     let list = items_at(s, fail_on)?;
-    let end = item_of(s.bytes, list, Kind::Steps)?;
-    filled(s.bytes, end)?;
+    let end = item_of(s, list, Kind::Steps)?;
+    filled(s, end)?;
     steps(s.slice(list + HEADER, end))
 }
 
@@ -207,13 +210,13 @@ fn rest(s: Encoded<'_>, at: usize) -> Option<usize>
 fn fields(s: Encoded<'_>) -> Option<usize>
     ensures { count_of result ≡ meaning_steps s.entry.bytes.now }
 {
-    let description = text_at(s.bytes, 0)?;
-    let tags = text_at(s.bytes, description)?;
-    let image = item_of(s.bytes, tags, Kind::Seq)?;
+    let description = text_at(s, 0)?;
+    let tags = text_at(s, description)?;
+    let image = item_of(s, tags, Kind::Seq)?;
     if !are_texts(&s.bytes[tags + HEADER..image]) {
         return None;
     }
-    let setup = text_at(s.bytes, image)?;
+    let setup = text_at(s, image)?;
     let defaults = value_at(s, setup, FIELD_LEVELS)?;
     rest(s, defaults)
 }
@@ -225,9 +228,9 @@ fn whole(record: &[u8]) -> Option<usize>
     if record.len() > LIMIT {
         return None;
     }
+    let record = Encoded { bytes: record };
     let end = item_of(record, 0, Kind::Scenario)?;
     filled(record, end)?;
-    let record = Encoded { bytes: record };
     fields(record.slice(HEADER, end))
 }
 
@@ -272,7 +275,7 @@ fn field_at(record: &[u8], place: usize) -> Result<Option<Span>, Refusal>
     ensures { looked_of result ≡ definition.field «record».now place }
 {
     checked(record)?;
-    if !(1..=8).contains(&place) {
+    if !(1..=FIELDS).contains(&place) {
         return Err(Refusal::OutOfRange);
     }
     Ok(nth_item(record, HEADER, place - 1))
@@ -290,7 +293,7 @@ pub fn steps_of(record: &[u8]) -> Result<StepItems<'_>, Refusal>
     ensures { MatchResult result (StepsOf «record».now) (λ e. refusal e ≡ definition.check_record «record».now) }
 {
     let count = checked(record)?;
-    let list = nth_item(record, HEADER, 7).ok_or(Refusal::Malformed)?;
+    let list = nth_item(record, HEADER, FIELDS - 1).ok_or(Refusal::Malformed)?;
     let record = Encoded { bytes: record };
     Ok(StepItems {
         count,

@@ -1,5 +1,7 @@
 -- What white_at, trim_start and trim_end find at a place of the text, one law for each of their answers. Assumes nothing.
 use Rattle.std.specs.Prelude.{if◌then◌else◌}
+use Rattle.std.specs.Prelude.{Option as Maybe, Some, None, MatchOption}
+use Rattle.std.specs.Option.{unwrap_or}
 use Rattle.std.proofs.Common.{◌≡◌, refl, sym, ap, ◌∙◌, List, [], ◌∷◌, Bool, true, false, ℕ, zero, suc, ◌+◌, ◌-◌, ◌≤◌, ◌<◌, arith, length, get_or}
 use Rattle.std.proofs.Math.Bool.{false≢true}
 use Rattle.std.proofs.Math.Option.{some, none}
@@ -113,6 +115,11 @@ module _ (s : List ℕ) (from to : ℕ) where
       go (suc (suc zero)) p q = g
       go (suc (suc (suc zero))) p q = h
       go (suc (suc (suc (suc n)))) p q = absurd (omega arith)
+
+  -- by a search among the three lengths
+  pub ends-searched : (r : Maybe ℕ) {n : ℕ} → MatchOption r ((k : ℕ) → 1 ≤ k → k < 4 → No k) (λ i. (1 ≤ i) × (i < 4) × ((i ≤ to - from) × (white_len (part s (to - i) to) ≡ i)) × ((k : ℕ) → 1 ≤ k → k < i → No k)) → n ≡ unwrap_or r 0 → Ends s from to n
+  ends-searched (Some i) h e = let w = h.2 in rw e (record { fits = w.0; ends = λ p. w.1; none = λ z. absurd (omega (arith, h.0, z)) })
+  ends-searched None h e = rw e (ends_none (h 1 (omega arith) (omega arith)) (h 2 (omega arith) (omega arith)) (h 3 (omega arith) (omega arith)))
 
 -- a byte from 21 to 7F neither begins a white space character nor ends one
 module _ (s : List ℕ) (to : ℕ) (k : to ≤ length s) where

@@ -47,7 +47,7 @@ impl Due {
         if self.left == 0 {
             return first(b);
         }
-        if b < self.low || self.high < b {
+        if !(self.low..=self.high).contains(&b) {
             return None;
         }
         Some(Due {
@@ -150,12 +150,9 @@ fn white_before(s: &[u8], from: usize, to: usize) -> usize
     requires { (from ≤ to) × (to ≤ length s.now) }
     ensures { Ends s.now from to result }
 {
-    for n in 1..4 {
-        if n <= to - from && white_at(s, to - n, to) == n {
-            return n;
-        }
-    }
-    0
+    (1..4)
+        .find(|&n| n <= to - from && white_at(s, to - n, to) == n)
+        .unwrap_or(0)
 }
 
 /// Where the leading white space of a part ends.
@@ -201,8 +198,8 @@ pub fn trim_end(s: &[u8], from: usize, to: usize) -> usize
 }
 
 /// The first place from `from` on and before `to` that passes a test, or `to`.
-// A `while`: std's `find` over a range takes two instructions more for each place. Scans of comments, UTF-8 and lines stand on this one and
-// would miss their bars of speed.
+// A `while`: std's `find` over a range takes two instructions more for each place. Scans of lines, scalars and flow collections stand on this
+// one and would miss their bars of speed.
 pub fn first_place<F: Fn(usize) -> bool>(from: usize, to: usize, test: F) -> usize
     requires order { from ≤ to }
     requires callable { (k : ℕ) → from ≤ k → k < to → F.pre test k }

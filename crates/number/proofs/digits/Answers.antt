@@ -1,7 +1,7 @@
-use Rattle.std.proofs.Common.{arith, sym, ap, ◌∙◌, ℕ, ◌+◌, length, drop, le-leb, eqb-true}
-use Rattle.std.proofs.lemmas.Bool.{lt-leb, eqb-false}
+use Rattle.std.proofs.Common.{arith, sym, ap, ◌∙◌, ℕ, ◌+◌, length, drop, eqb-true}
+use Rattle.std.proofs.lemmas.Bool.{eqb-false}
 use Rattle.number.specs.Code.{number_of, at_most}
-use Rattle.number.proofs.Laws.{digits_from, digits-none, digits-zero, digits-start, from_other, from-over, from_on, from_end}
+use Rattle.number.proofs.Laws.{digits_from, digits-none, digits-zero, digits-start, from_other, from-over, from_on, from_end, bounded-by}
 use Rattle.number.proofs.digits.Goals as goal
 use Rattle.number.proofs.digits.Goals.{then-is_empty-via-then-is_empty, then-is_empty-via-else-is_empty+then-zero_first}
 
@@ -36,12 +36,6 @@ loop-b-preserved c = let l = c.loop-b in let a = c.args in
     l.invariant ∙ ap (at_most a.limit) (from_on a.t.now l.b-index l.number c.loop-b-test.true (sym c.is_ascii_digit.ensures.value ∙ c.if-not-is_ascii_digit.false)
     ∙ ap (λ (n : ℕ). digits_from n (drop (l.b-index + 1) a.t.now)) (omega (arith, c.from.ensures, c.in_ok-checked_mul.ensures, c.in_ok-number.ensures)))
 
-pub returns-then-number-limit : goal.returns-then-number-limit
-unfolding at_most
-returns-then-number-limit c = let l = c.loop-b in let a = c.args in
-    rw (l.invariant, from_end a.t.now l.b-index l.number (omega arith), le-leb l.number a.limit (omega arith))
-
-pub returns-else-number-limit : goal.returns-else-number-limit
-unfolding at_most
-returns-else-number-limit c = let l = c.loop-b in let a = c.args in
-    rw (l.invariant, from_end a.t.now l.b-index l.number (omega arith), lt-leb l.number a.limit (omega arith))
+pub returns : goal.returns
+returns c = let l = c.loop-b in let a = c.args in
+    rw (l.invariant, from_end a.t.now l.b-index l.number (omega arith), c.then_some.ensures) (bounded-by a.limit l.number)

@@ -1,9 +1,9 @@
-use Rattle.std.proofs.Common.{arith}
-use Rattle.utf8.proofs.Turns.{ends_none}
+use Rattle.std.proofs.Common.{rules, tests}
+use Rattle.std.proofs.lemmas.Iterator.{first_from_Range}
+use Rattle.utf8.proofs.Turns.{ends-searched}
 use Rattle.utf8.proofs.white_before.Goals as goal
 
 pub returns : goal.returns
 returns c =
     let a = c.args in
-    let none = c.loop-n.invariant in
-    ends_none a.s.now a.from a.to (none 1 (omega arith) (omega arith)) (none 2 (omega arith) (omega arith)) (none 3 (omega arith) (omega arith))
+    ends-searched a.s.now a.from a.to c.find.result (first_from_Range _ _ _ _ _ _ c.find.ensures.ran (λ k q p. search (rules, tests)) (λ k q p. search (rules, tests))) c.unwrap_or.ensures
