@@ -1,9 +1,8 @@
 -- How the lines of a text end: a blank one stands before one of its indentation, and any other one ends in a byte other than a
 -- newline. So the table of a text's lines is ready to be read. Assumes nothing.
 use Rattle.std.specs.Prelude.{if◌then◌else◌}
-use Rattle.std.proofs.Common.{◌≡◌, refl, sym, ap, ◌∙◌, subst, ℕ, zero, suc, ◌-◌, ◌≤◌, List, [], ◌∷◌, ◌++◌, append_assoc, Bool, true, false, ltb, length, take, drop, arith, length-take-le}
+use Rattle.std.proofs.Common.{◌≡◌, refl, sym, ap, ◌∙◌, subst, ℕ, zero, suc, ◌-◌, ◌≤◌, List, [], ◌∷◌, ◌++◌, append_assoc, Bool, true, false, ltb, length, drop, arith}
 use Rattle.std.proofs.Math.Bool.{false≢true}
-use Rattle.std.proofs.lemmas.List.{length-map}
 use Rattle.refusal.specs.Base.{good, maybe, empty, ch}
 use Rattle.refusal.proofs.Tools.{good-inj, refused≢good, bound}
 use Rattle.utf8.specs.Utf8.{within}
@@ -13,7 +12,7 @@ use Rattle.lines.specs.declared.Literal.{Literal}
 use Rattle.lines.specs.declared.Literal.TheVariants.{Closed as Shut, Under}
 use Rattle.lines.specs.Lines.{Line, line, Event, entry, bad, split_lines, indent_of, strip_comment, tabbed, significant, is_marker, literal_after, events_of, blanks_before, body_of, scan, collect, significant_lines}
 use Rattle.lines.specs.declared.Row.{Row}
-use Rattle.lines.specs.Table.{line_of, table_lines, AllLieIn}
+use Rattle.lines.specs.Table.{table_lines, AllLieIn}
 use Rattle.lines.specs.Ready.{Closed, Ended, none, blank, full, Filled}
 use Rattle.lines.proofs.Laws.{indent-white}
 
@@ -149,17 +148,28 @@ ended-drop (suc i) none = none
 ended-drop (suc i) (blank l m ls t j e) = ended-drop i e
 ended-drop (suc i) (full l ls c e) = ended-drop i e
 
--- a table that was filled from its text
-pub filled : (text : List ℕ) (rows : List Row) (count : ℕ) → length text ≤ 65535 → length rows ≡ 2048 → count ≤ 2048
-    → significant_lines text ≡ good (table_lines text (take count rows)) → AllLieIn text (take count rows) → Filled text rows count
-filled text rows count h k f e p =
-    let n : length (take count rows) ≡ count = length-take-le count rows (omega arith) in
-    record {
-      room = omega arith;
-      lines = e;
-      ready = record {
-        short = h;
-        placed = p;
-        lines = record { few = omega (arith, length-map (take count rows) (line_of text)); ended = lines_end text (table_lines text (take count rows)) e };
-      };
-    }
+-- there are no more than the room
+collects-few : (room : ℕ) (es : List Event) (ls : List Line) → collect room es ≡ good ls → length ls ≤ room
+unfolding collect
+collects-few zero [] ls e = omega (arith, ap length (good-inj [] ls e))
+collects-few (suc room) [] ls e = omega (arith, ap length (good-inj [] ls e))
+collects-few zero (bad k n ∷ es) ls e = refused≢good ls k n 0 e
+collects-few (suc room) (bad k n ∷ es) ls e = refused≢good ls k n 0 e
+collects-few zero (entry l ∷ es) ls e = refused≢good ls 3 l.number 0 e
+collects-few (suc room) (entry l ∷ es) ls e =
+    bound (collect room es) (λ rest. good (l ∷ rest)) ls e λ x p q. omega (arith, collects-few room es x p, ap length (good-inj (l ∷ x) ls q))
+
+lines_few : (text : List ℕ) (ls : List Line) → significant_lines text ≡ good ls → length ls ≤ 2048
+unfolding significant_lines
+lines_few text ls e = collects-few 2048 (scan Shut 0 1 (split_lines text)) ls e
+
+-- rows that were filled from their text
+pub filled : (text : List ℕ) (rows : List Row) → length text ≤ 65535 → significant_lines text ≡ good (table_lines text rows) → AllLieIn text rows → Filled text rows
+filled text rows h e p = record {
+  lines = e;
+  ready = record {
+    short = h;
+    placed = p;
+    lines = record { few = lines_few text (table_lines text rows) e; ended = lines_end text (table_lines text rows) e };
+  };
+}

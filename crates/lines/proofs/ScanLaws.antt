@@ -1,6 +1,6 @@
 -- What a line of the text gives, by its places. Assumes nothing.
 use Rattle.std.specs.Prelude.{if◌then◌else◌}
-use Rattle.std.proofs.Common.{◌≡◌, refl, sym, ap, ◌∙◌, ℕ, suc, ◌+◌, ◌≤◌, ◌<◌, add-one, arith, List, [], ◌∷◌, ◌++◌, append_assoc, append-nil, Bool, true, false, eqb, ltb, length, take, drop, drop_of_length-le, eqb-true}
+use Rattle.std.proofs.Common.{◌≡◌, refl, sym, ap, ◌∙◌, ℕ, suc, ◌+◌, ◌≤◌, ◌<◌, add-one, arith, List, [], ◌∷◌, ◌++◌, append_assoc, append-nil, Bool, true, false, eqb, ltb, length, drop, drop_of_length-le, eqb-true}
 use Rattle.std.proofs.lemmas.Bool.{eqb-false}
 use Rattle.lines.specs.declared.Row.{Row}
 use Rattle.refusal.specs.Base.{Answer, good, refused, ◌>>=◌, bytes, same, ends_with, empty}
@@ -8,7 +8,6 @@ use Rattle.utf8.specs.Part.{part}
 use Rattle.utf8.specs.White.{leading, all_white, trim_end}
 use Rattle.utf8.proofs.Laws.{part-white, part-not-white, part-empty, part-cons, part-drop, part-take, end-part}
 use Rattle.lines.specs.declared.RawLine.{RawLine}
-use Rattle.lines.specs.declared.Table.{Table}
 use Rattle.lines.specs.declared.Literal.{Literal}
 use Rattle.lines.specs.declared.Literal.TheVariants.{Closed, Under}
 use Rattle.lines.specs.Lines.{Line, split_lines, significant_lines, indent_of, tabbed, strip_comment, significant, is_marker, opens_literal, literal_of, literal_after, Event, entry, bad, events_of, blanks_before, body_of, scan, collect}
@@ -17,7 +16,7 @@ use Rattle.lines.specs.declared.Way.TheVariants.{Normal, Blank, Body}
 use Rattle.lines.specs.Raw.{raw_text, way_of}
 use Rattle.lines.specs.declared.LineTaken.{LineTaken}
 use Rattle.lines.specs.Table.{row_of, line_of, table_lines, AllLieIn, behind}
-use Rattle.lines.specs.Filling.{rows_of, reading}
+use Rattle.lines.specs.Filling.{reading}
 use Rattle.lines.proofs.Laws.{strip-take, indent-tab, indent-white}
 use Rattle.lines.proofs.TableLaws.{collect-bad}
 
@@ -147,28 +146,28 @@ module _ (n : ℕ) (raw : List ℕ) (waiting : ℕ) (raws : List (List ℕ)) whe
 
 -- ---- the whole text
 
-pub lines_start : (text : List ℕ) (rows : List Row) → significant_lines text ≡ behind (table_lines text (take 0 rows)) (collect 2048 (scan Closed 0 1 (split_lines text)))
+pub lines_start : (text : List ℕ) → significant_lines text ≡ reading text [] (scan Closed 0 1 (split_lines text))
 unfolding significant_lines behind ◌>>=◌
-lines_start text rows = go (collect 2048 (scan Closed 0 1 (split_lines text)))
+lines_start text = go (collect 2048 (scan Closed 0 1 (split_lines text)))
   where
     go : (a : Answer (List Line)) → a ≡ behind [] a
     go (good ls) = refl
     go (refused k l s) = refl
 
-pub lines_end : (text : List ℕ) (table : Table) (lit : Literal) (waiting n at : ℕ) → length text ≤ at
-    → reading text table (scan lit waiting n (split_lines (drop at text))) ≡ good (table_lines text (rows_of table))
+pub lines_end : (text : List ℕ) (rows : List Row) (lit : Literal) (waiting n at : ℕ) → length text ≤ at
+    → reading text rows (scan lit waiting n (split_lines (drop at text))) ≡ good (table_lines text rows)
 unfolding split_lines scan collect behind ◌>>=◌
-lines_end text table lit waiting n at h = rw (drop_of_length-le text {i = at} h) (go lit)
+lines_end text rows lit waiting n at h = rw (drop_of_length-le text {i = at} h) (go lit)
   where
-    go : (lit : Literal) → reading text table (scan lit waiting n []) ≡ good (table_lines text (rows_of table))
-    go Closed = ap good (append-nil (table_lines text (rows_of table)))
-    go (Under u) = ap good (append-nil (table_lines text (rows_of table)))
+    go : (lit : Literal) → reading text rows (scan lit waiting n []) ≡ good (table_lines text rows)
+    go Closed = ap good (append-nil (table_lines text rows))
+    go (Under u) = ap good (append-nil (table_lines text rows))
 
 -- what holds between two lines: the text from `at` on is still to be read
-pub record Scanned (text : List ℕ) (table : Table) (at number : ℕ) (taken : LineTaken) : Type 0 where
+pub record Scanned (text : List ℕ) (rows : List Row) (at number : ℕ) (taken : LineTaken) : Type 0 where
   pub place : at ≤ length text + 1
   pub numbered : number ≤ at + 1
   pub some : 0 < number
   pub waits : taken.waiting < number
-  pub lines : significant_lines text ≡ reading text table (scan taken.literal taken.waiting number (split_lines (drop at text)))
-  pub placed : AllLieIn text (rows_of table)
+  pub lines : significant_lines text ≡ reading text rows (scan taken.literal taken.waiting number (split_lines (drop at text)))
+  pub placed : AllLieIn text rows

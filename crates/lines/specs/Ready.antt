@@ -1,6 +1,6 @@
--- Section 1 of document 01, for contracts: what a reader of lines asks of a text and the table of its lines. Uses Base of `refusal`; Lines
+-- Section 1 of document 01, for contracts: what a reader of lines asks of a text and the rows of its lines. Uses Base of `refusal`; Lines
 -- and Table of this crate. Assumes nothing.
-use Rattle.std.specs.Prelude.{◌≡◌, ℕ, ◌≤◌, List, [], ◌∷◌, ◌++◌, length, take}
+use Rattle.std.specs.Prelude.{◌≡◌, ℕ, ◌≤◌, List, [], ◌∷◌, ◌++◌, length}
 use Rattle.refusal.specs.Base.{ch, good}
 use Rattle.lines.specs.declared.Row.{Row}
 use Rattle.lines.specs.Lines.{Line, most_lines, significant_lines}
@@ -30,8 +30,7 @@ pub record Ready (text : List ℕ) (rows : List Row) : Type 0 where
   pub placed : AllLieIn text rows
   pub lines : AreLines (table_lines text rows)
 
--- the first `count` rows are those of the definition's lines
-pub record Filled (text : List ℕ) (rows : List Row) (count : ℕ) : Type 0 where
-  pub room : count ≤ length rows
-  pub lines : significant_lines text ≡ good (table_lines text (take count rows))
-  pub ready : Ready text (take count rows)
+-- the rows are those of the definition's lines
+pub record Filled (text : List ℕ) (rows : List Row) : Type 0 where
+  pub lines : significant_lines text ≡ good (table_lines text rows)
+  pub ready : Ready text rows

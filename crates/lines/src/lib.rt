@@ -1,18 +1,20 @@
-// The significant lines of a text, as the rows of a table (document 01, section 1).
+// The significant lines of a text, as rows (document 01, section 1).
 #![tactic(auto)]
 
-ghost use Rattle.std.specs.Prelude.{◌≡◌, true, false, List, [], ◌∷◌, ◌++◌, ℕ, ◌+◌, ◌*◌, ◌≤◌, ◌<◌, ◌^◌, length, drop, get_or, MatchResult};
+ghost use Rattle.std.specs.Prelude.{◌≡◌, true, false, List, [], ◌∷◌, ◌++◌, ℕ, ◌+◌, ◌*◌, ◌≤◌, ◌<◌, ◌^◌, length, drop, get_or, IfOk, MatchResult};
 ghost use Rattle.refusal.specs.Told.{refusal};
 ghost use Rattle.utf8.specs.Part.{part};
 ghost use Rattle.utf8.specs.White.{all_white};
 ghost use Rattle.lines.specs.Lines.{split_lines, indent_of, tabbed, after_plain, place_after, starts_comment, strip_comment, significant, is_marker, opens_literal, significant_lines};
-ghost use Rattle.lines.specs.Lines.{literal_of, most_lines};
+ghost use Rattle.lines.specs.Lines.{Event, entry, literal_of, most_lines};
 ghost use Rattle.lines.specs.Dash as definition;
 ghost use Rattle.lines.specs.Dash.{is_dash};
 ghost use Rattle.lines.specs.Places.{Lacks, until_newline, LineEnds};
-ghost use Rattle.lines.specs.Table.{row_of, table_lines, line_at};
+ghost use Rattle.lines.specs.Table.{row_of, line_of, LiesIn, table_lines, line_at};
+ghost use Rattle.lines.specs.Filling.{Takes};
 ghost use Rattle.lines.specs.Ready.{AreLines, Ready, Filled};
 
+use arrayvec::ArrayVec;
 use refusal::Refusal;
 use std::marker::Model;
 use utf8::{first_place, trim_end, trim_start};
@@ -39,9 +41,9 @@ pub enum Literal {
     Under(usize),
 }
 
-/// A line in the table: its indentation, the start and the end of its text as places of the whole text, and its number from 1. No text
+/// A line, as a row: its indentation, the start and the end of its text as places of the whole text, and its number from 1. No text
 /// is so long that they do not fit.
-#[derive(Clone, Copy, Debug, PartialEq, Eq)]
+#[derive(Clone, Copy, Debug, Default, PartialEq, Eq)]
 pub struct Row {
     pub indent: u16,
     pub start: u16,
@@ -49,15 +51,8 @@ pub struct Row {
     pub number: u16,
 }
 
-impl Row {
-    /// What stands in a table before a text is read.
-    pub const EMPTY: Row = Row {
-        indent: 0,
-        start: 0,
-        end: 0,
-        number: 0,
-    };
-}
+/// The rows of the lines of a text.
+pub type Rows = ArrayVec<Row, MOST_LINES>;
 
 // A line of the text, by its places: where it begins, where its indentation ends, where it ends, and where its newline stands, or else the text
 // ends. A carriage return before the newline is no part of it. Its number is from 1.
@@ -77,15 +72,6 @@ struct RawLine<'a> {
     ghost splits: { split_lines (drop from text.now) ≡ part text.now from to ∷ split_lines (drop (newline + 1) text.now) },
     ghost some: { 0 < number },
     ghost few: { number ≤ 65535 },
-}
-
-// A table that is being filled: its rows, and how many of them are.
-#[derive(Drop)]
-struct Table<'a> {
-    rows: &'a mut [Row; MOST_LINES],
-    count: usize,
-    ghost whole: { length rows.now ≡ most_lines },
-    ghost fits: { count ≤ most_lines },
 }
 
 // What is known behind a line: which literal is open, and how many blank lines of it wait for one that is not.
@@ -291,8 +277,18 @@ fn literal_after(t: &[u8], indent: usize) -> Literal
     }
 }
 
+// The row of one line more.
+fn push(rows: &mut Rows, row: Row) -> Result<(), Refusal>
+    ensures { (text : List ℕ) (es : List Event) → LiesIn text row
+        → Takes text rows.old.items rows.new.items (entry (line_of text row) ∷ es) (λ _. es) result }
+{
+    rows.try_push(row).or(Err(Refusal::TooManyLines {
+        line: u32::from(row.number),
+    }))
+}
+
 impl<'a> RawLine<'a> {
-    ghost use Rattle.lines.specs.Table.{LiesIn};
+    ghost use Rattle.lines.specs.Lines.{events_of, literal_after, blanks_before, body_of, scan};
     ghost use Rattle.lines.specs.Raw.{raw_text, way_of};
 
     // The line that starts at `from`.
@@ -382,115 +378,82 @@ impl<'a> RawLine<'a> {
             number: self.number as u16,
         }
     }
-}
 
-impl<'a> Table<'a> {
-    // A table of which no row is filled.
-    fn new(rows: &'a mut [Row; MOST_LINES]) -> Table<'a>
-        ensures same_reference { result.rows.ghost_name ≡ rows.entry.ghost_name }
-        ensures kept { result.rows.now ≡ rows.old }
-        ensures empty { result.count ≡ 0 }
-    {
-        Table { rows, count: 0 }
-    }
-}
-
-impl Table<'_> {
-    ghost use Rattle.std.specs.Prelude.{IfOk};
-    ghost use Rattle.lines.specs.Lines.{Event, entry, events_of, literal_after, blanks_before, body_of, scan};
-    ghost use Rattle.lines.specs.Table.{line_of, LiesIn};
-    ghost use Rattle.lines.specs.Raw.{raw_text};
-    ghost use Rattle.lines.specs.Filling.{Takes};
-
-    // The row of one line more.
-    fn push(&mut self, row: Row) -> Result<(), Refusal>
-        ensures { (text : List ℕ) (es : List Event) → LiesIn text row
-            → Takes text self.old self.new (entry (line_of text row) ∷ es) (λ _. es) result }
-    {
-        let is_full = self.count == MOST_LINES;
-        if is_full {
-            return Err(Refusal::TooManyLines {
-                line: u32::from(row.number),
-            });
-        }
-        self.rows[self.count] = row;
-        self.count += 1;
-        Ok(())
-    }
-
-    // The blank lines that wait before a line, with its indentation.
-    fn push_blanks(&mut self, line: RawLine<'_>, waiting: usize) -> Result<(), Refusal>
-        requires { waiting ≤ line.number }
+    // The blank lines that wait before it, with its indentation.
+    fn push_blanks(self, rows: &mut Rows, waiting: usize) -> Result<(), Refusal>
+        requires { waiting ≤ self.number }
         ensures { (es : List Event)
-            → Takes line.entry.text.now self.old self.new (blanks_before waiting line.entry.number (indent_of (raw_text line.entry)) ++ es) (λ _. es) result }
+            → Takes self.entry.text.now rows.old.items rows.new.items (blanks_before waiting self.entry.number (indent_of (raw_text self.entry)) ++ es) (λ _. es) result }
     {
-        for number in line.number - waiting..line.number {
-            self.push(Row {
-                indent: line.indent() as u16,
+        for number in self.number - waiting..self.number {
+            let row = Row {
+                indent: self.indent() as u16,
+                start: 0,
+                end: 0,
                 number: number as u16,
-                ..Row::EMPTY
-            })?;
+            };
+            push(rows, row)?;
         }
         Ok(())
     }
 
-    // A line that is read normally, and what is open behind it.
-    fn normal_line(&mut self, line: RawLine<'_>) -> Result<Literal, Refusal>
-        requires { tabbed (raw_text line) ≡ false }
+    // Itself, read normally, and what is open behind it.
+    fn push_normal(self, rows: &mut Rows) -> Result<Literal, Refusal>
+        requires { tabbed (raw_text self) ≡ false }
         ensures taken { (es : List Event)
-            → Takes line.entry.text.now self.old self.new (events_of line.entry.number (raw_text line.entry) ++ es) (λ _. es) result }
-        ensures open { IfOk result (λ literal. literal ≡ literal_after (raw_text line.entry)) }
+            → Takes self.entry.text.now rows.old.items rows.new.items (events_of self.entry.number (raw_text self.entry) ++ es) (λ _. es) result }
+        ensures open { IfOk result (λ literal. literal ≡ literal_after (raw_text self.entry)) }
     {
-        let end = line.significant_end();
-        if end == line.start {
+        let end = self.significant_end();
+        if end == self.start {
             return Ok(Literal::Closed);
         }
-        let significant = &line.text[line.start..end];
+        let significant = &self.text[self.start..end];
         if is_marker(significant) {
             return Err(Refusal::DocumentMarker {
-                line: line.number as u32,
+                line: self.number as u32,
             });
         }
-        self.push(line.row(end))?;
-        Ok(literal_after(significant, line.indent()))
+        push(rows, self.row(end))?;
+        Ok(literal_after(significant, self.indent()))
     }
 
-    // A body line of the literal that is open, behind the blank lines that wait.
-    fn body_line(&mut self, line: RawLine<'_>, waiting: usize) -> Result<(), Refusal>
-        requires untabbed { tabbed (raw_text line) ≡ false }
-        requires waits { waiting < line.number }
+    // Itself, as a body line of the literal that is open, behind the blank lines that wait.
+    fn push_body(self, rows: &mut Rows, waiting: usize) -> Result<(), Refusal>
+        requires untabbed { tabbed (raw_text self) ≡ false }
+        requires waits { waiting < self.number }
         ensures { (es : List Event)
-            → Takes line.entry.text.now self.old self.new (body_of waiting line.entry.number (raw_text line.entry) ++ es) (λ _. es) result }
+            → Takes self.entry.text.now rows.old.items rows.new.items (body_of waiting self.entry.number (raw_text self.entry) ++ es) (λ _. es) result }
     {
-        self.push_blanks(line, waiting)?;
-        self.push(line.row(trim_end(line.text, line.start, line.to)))
+        self.push_blanks(rows, waiting)?;
+        push(rows, self.row(trim_end(self.text, self.start, self.to)))
     }
 
     // A tab in its leading white space stops any line but a blank one of a literal. It is asked for here once: asked for in the two functions
     // above, where it would need no clause of theirs, it took 19 instructions more for each line, since what is called twice is not put in line.
-    fn read_line(&mut self, line: RawLine<'_>, before: LineTaken) -> Result<LineTaken, Refusal>
-        requires { before.waiting < line.number }
+    fn read_into(self, rows: &mut Rows, before: LineTaken) -> Result<LineTaken, Refusal>
+        requires { before.waiting < self.number }
         ensures taken { (raws : List (List ℕ))
-            → Takes line.entry.text.now self.old self.new (scan before.literal before.waiting line.entry.number (raw_text line.entry ∷ raws))
-            (λ l. scan l.literal l.waiting (line.entry.number + 1) raws) result }
-        ensures waits { IfOk result (λ l. l.waiting ≤ line.entry.number) }
+            → Takes self.entry.text.now rows.old.items rows.new.items (scan before.literal before.waiting self.entry.number (raw_text self.entry ∷ raws))
+            (λ l. scan l.literal l.waiting (self.entry.number + 1) raws) result }
+        ensures waits { IfOk result (λ l. l.waiting ≤ self.entry.number) }
     {
-        let way = line.way(before.literal);
+        let way = self.way(before.literal);
         if let Way::Blank(under) = way {
             return Ok(LineTaken {
                 literal: Literal::Under(under),
                 waiting: before.waiting + 1,
             });
         }
-        line.untabbed()?;
+        self.untabbed()?;
         if let Way::Body(under) = way {
-            self.body_line(line, before.waiting)?;
+            self.push_body(rows, before.waiting)?;
             return Ok(LineTaken {
                 literal: Literal::Under(under),
                 waiting: 0,
             });
         }
-        let literal = self.normal_line(line)?;
+        let literal = self.push_normal(rows)?;
         Ok(LineTaken {
             literal,
             waiting: 0,
@@ -498,27 +461,27 @@ impl Table<'_> {
     }
 }
 
-/// The significant lines of a text, as rows at the front of the table: how many there are. It refuses a tab in an indentation, a
-/// document marker, and the line that is one too many, whichever comes first. Of a refusal anything is left in the rows.
-// A `while`, since each turn goes on at the place that the last one found.
-pub fn read_lines(text: &[u8], rows: &mut [Row; MOST_LINES]) -> Result<usize, Refusal>
+/// The significant lines of a text, as rows, in place of what stood there. It refuses a tab in an indentation, a document marker, and
+/// the line that is one too many, whichever comes first. Of a refusal anything is left in the rows.
+// A `while`, since each turn goes on at the place that the last one found; an iterator of the lines would have this one user.
+pub fn read_lines(text: &[u8], rows: &mut Rows) -> Result<(), Refusal>
     requires { length text.now ≤ 65535 }
-    ensures { MatchResult result (Filled text.now rows.new) (λ e. significant_lines text.now ≡ refusal e) }
+    ensures { MatchResult result (λ _. Filled text.now rows.new.items) (λ e. significant_lines text.now ≡ refusal e) }
 {
     let mut at = 0;
     let mut number = 1;
-    let mut table = Table::new(rows);
     let mut taken = LineTaken {
         literal: Literal::Closed,
         waiting: 0,
     };
+    rows.clear();
     while at < text.len() {
         let line = RawLine::at(text, at, number);
-        taken = table.read_line(line, taken)?;
+        taken = line.read_into(rows, taken)?;
         at = line.newline + 1;
         number += 1;
     }
-    Ok(table.count)
+    Ok(())
 }
 
 /// Whether a line is `-` or starts with `- `: `-1` and `---` are not.

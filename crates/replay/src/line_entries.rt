@@ -1,7 +1,7 @@
 // The rows of a text's lines.
 use crate::print::Hex;
 use console::Numbers;
-use lines::{Lines, MOST_LINES, Row};
+use lines::{Lines, Rows};
 use std::io;
 use std::io::Write;
 use tree::LONGEST;
@@ -20,9 +20,9 @@ pub(crate) fn print_lines(out: &mut impl Write, text: &[u8]) -> io::Result<()> {
     if text.len() > LONGEST {
         return Ok(());
     }
-    let mut rows = [Row::EMPTY; MOST_LINES];
+    let mut rows = Rows::new();
     match lines::read_lines(text, &mut rows) {
-        Ok(count) => print_lines_of(out, &Lines::new(text, &rows[..count])),
+        Ok(()) => print_lines_of(out, &Lines::new(text, &rows)),
         Err(e) => write!(out, "refused {}", Numbers(e)),
     }
 }

@@ -28,7 +28,7 @@ use Rattle.scenario.specs.Scenario.{Reading, lines_for, reading_of, scenario, ou
 use Rattle.scenario.specs.Contract.{WroteSteps, WroteScenario, AgreesScenario}
 
 -- what holds of any tree in range that stands in the work holds of the one that was read
-module _ {text old new : List ℕ} {rows : List Row} {bytes count : ℕ} (w : WroteLined (tree (length old) text) text rows old new bytes count) where
+module _ {text old new : List ℕ} {rows : List Row} {bytes : ℕ} (w : WroteLined (tree (length old) text) text rows old new bytes) where
   abbrev whole : List ℕ
   whole = encode w.wrote.tree
 

@@ -14,7 +14,7 @@ ghost use Rattle.scenario.specs.Scenario.{scenario_of, output, tree_bytes, recor
 ghost use Rattle.scenario.specs.Contract.{WritesSteps, AgreesScenario};
 
 use item::{Encoded, Item, Kind, LIMIT, Part};
-use lines::{Lines, MOST_LINES, Row};
+use lines::{Lines, Rows};
 use nodes::{Node, RecordWriter};
 use refusal::Refusal;
 use step::step_at;
@@ -123,9 +123,9 @@ fn read(
         work.old work.new «record».old «record».new lines.old lines.new
         result }
 {
-    let mut rows = [Row::EMPTY; MOST_LINES];
-    let tree = read_with(text, &mut rows, work)?;
-    let text = Lines::new(text, &rows[..tree.count]);
+    let mut rows = Rows::new();
+    let tree_bytes = read_with(text, &mut rows, work)?;
+    let text = Lines::new(text, &rows);
     let mut writer = RecordWriter::new(record);
     let steps = put_record(Encoded { bytes: work }, &text, &mut writer, lines)?;
     let end = writer.end;
@@ -136,7 +136,7 @@ fn read(
         return Err(Refusal::RecordTooLong);
     }
     Ok(Sizes {
-        tree_bytes: tree.bytes,
+        tree_bytes,
         record_bytes: end,
         line_bytes: 4 * steps,
         steps,

@@ -1,5 +1,5 @@
 -- What each step of reading a tree comes to. Assumes nothing.
-use Rattle.std.proofs.Common.{◌≡◌, sym, ap, ◌∙◌, ℕ, ◌+◌, ◌≤◌, ◌<◌, min, ◌^◌, arith, List, [], ◌∷◌, ◌++◌, append_assoc, true, false, length, take, drop, replicate, length-append, length-drop, take-append-drop, length-take-le, le-leb}
+use Rattle.std.proofs.Common.{◌≡◌, sym, ap, ◌∙◌, ℕ, ◌+◌, ◌≤◌, ◌<◌, min, ◌^◌, arith, List, [], ◌∷◌, ◌++◌, append_assoc, Result, Ok, Err, true, false, length, take, drop, replicate, length-append, length-drop, take-append-drop, length-take-le, le-leb}
 use Rattle.std.proofs.lemmas.List.Edits.{sets, sets-eq}
 use Rattle.std.proofs.lemmas.List.{drop-append-le}
 use Rattle.std.proofs.lemmas.Bool.{lt-leb}
@@ -20,7 +20,7 @@ use Rattle.lines.specs.Ready.{Filled}
 use Rattle.literal.specs.Contract.{WroteBlock}
 use Rattle.block.specs.Block.{block}
 use Rattle.tree.specs.Tree.{admitted, nothing_left, tree_of, tree, size_of, left}
-use Rattle.tree.specs.Contract.{WroteTree, WroteLined}
+use Rattle.tree.specs.Contract.{WroteTree, AgreesTree, AgreesRead}
 
 -- ---- the lines' value
 
@@ -73,13 +73,13 @@ module _ (work : ℕ) (text : List ℕ) where
   unfolding tree
   tree-counted = let m : min (min work (2 ^ 20)) (2 ^ 20) ≡ min work (2 ^ 20) = omega arith in rw m
 
-pub read-lined : (text : List ℕ) (rows : List Row) (old new : List ℕ) (count n : ℕ) → length text ≤ 65535 → is_utf8 text ≡ true → length old ≤ 2 ^ 20 → Filled text rows count
-    → WroteTree (tree_of (length old) (table_lines text (take count rows))) old new n → WroteLined (tree (length old) text) text rows old new n count
-read-lined text rows old new count n h u m f w =
-    let e : tree (length old) text ≡ tree_of (length old) (table_lines text (take count rows)) = tree-lined (length old) text h u (table_lines text (take count rows)) f.lines m in
+pub read-lined : (text : List ℕ) (rows : List Row) (old new : List ℕ) (r : Result ℕ Refusal) → length text ≤ 65535 → is_utf8 text ≡ true → length old ≤ 2 ^ 20 → Filled text rows
+    → AgreesTree (tree_of (length old) (table_lines text rows)) old new r → AgreesRead (tree (length old) text) text rows old new r
+read-lined text rows old new (Err z) h u m f w = tree-lined (length old) text h u (table_lines text rows) f.lines m ∙ w
+read-lined text rows old new (Ok n) h u m f w =
+    let e : tree (length old) text ≡ tree_of (length old) (table_lines text rows) = tree-lined (length old) text h u (table_lines text rows) f.lines m in
     record {
       wrote = record { tree = w.tree; is = e ∙ w.is; stored = w.stored; size = w.size; fits = w.fits };
-      room = f.room;
       ready = f.ready;
       lined = f.lines;
       is_tree = e;

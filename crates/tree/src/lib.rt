@@ -8,7 +8,7 @@ ghost use Rattle.tree.specs.Tree.{answer_of, size_of, left};
 
 use block::block;
 use item::LIMIT;
-use lines::{Lines, MOST_LINES, Row, read_lines};
+use lines::{Lines, Rows, read_lines};
 use refusal::Refusal;
 use utf8::is_utf8;
 use writer::Writer;
@@ -27,13 +27,6 @@ pub enum TreeAnswer {
     Refused(Refusal),
 }
 
-/// What reading a tree with its lines gives: the bytes that it takes, and how many lines there are.
-#[derive(Clone, Copy, Debug, PartialEq, Eq)]
-pub struct TreeRead {
-    pub bytes: usize,
-    pub count: usize,
-}
-
 // The value of all lines. It is lent the output and no writer, which it would have to know to be empty.
 #[tactic(auto, using(crate::proofs::Reading::lines_read))]
 fn tree_of(lines: &Lines<'_>, out: &mut [u8]) -> Result<usize, Refusal>
@@ -49,15 +42,12 @@ fn tree_of(lines: &Lines<'_>, out: &mut [u8]) -> Result<usize, Refusal>
     Err(Refusal::LinesLeft { line })
 }
 
-/// The tree of a text, written from the front of `out`, and the rows of its lines. Of a refusal anything is left in both.
+/// The tree of a text, written from the front of `out`: its bytes; and the rows of its lines, in place of what stood there. Of a refusal
+/// anything is left in both.
 #[tactic(auto, using(crate::proofs::Reading::texts_read))]
-pub fn read_with(
-    text: &[u8],
-    rows: &mut [Row; MOST_LINES],
-    out: &mut [u8],
-) -> Result<TreeRead, Refusal>
+pub fn read_with(text: &[u8], rows: &mut Rows, out: &mut [u8]) -> Result<usize, Refusal>
     requires { length out.old ≤ 2 ^ 20 }
-    ensures { AgreesRead (definition.tree (length out.old) text.now) text.now rows.new out.old out.new result }
+    ensures { AgreesRead (definition.tree (length out.old) text.now) text.now rows.new.items out.old out.new result }
 {
     if text.len() > LONGEST {
         return Err(Refusal::TextTooLong);
@@ -65,10 +55,8 @@ pub fn read_with(
     if !is_utf8(text) {
         return Err(Refusal::NotUtf8);
     }
-    let count = read_lines(text, rows)?;
-    let lines = Lines::new(text, &rows[..count]);
-    let bytes = tree_of(&lines, out)?;
-    Ok(TreeRead { bytes, count })
+    read_lines(text, rows)?;
+    tree_of(&Lines::new(text, rows), out)
 }
 
 /// The tree of a text, written from the front of `work`; a refusal leaves zeros in all of it.
@@ -78,10 +66,10 @@ pub fn read_tree(text: &[u8], work: &mut [u8]) -> TreeAnswer
     ensures bytes { work.new ≡ left (definition.tree (length work.old) text.now)
         work.old }
 {
-    let mut rows = [Row::EMPTY; MOST_LINES];
+    let mut rows = Rows::new();
     let counted = work.len().min(LIMIT);
     match read_with(text, &mut rows, &mut work[..counted]) {
-        Ok(read) => TreeAnswer::Read { bytes: read.bytes },
+        Ok(bytes) => TreeAnswer::Read { bytes },
         Err(e) => {
             work.fill(0);
             TreeAnswer::Refused(e)
