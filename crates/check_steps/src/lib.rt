@@ -32,7 +32,8 @@ pub enum StepsAnswer {
     Refused(Refusal),
 }
 
-// `TimesAnswer` and `Lookup` have the like: each tells something of its own, so one trait would be handed both cases and be no plainer.
+// `RecordAnswer`, `TimesAnswer` and `Lookup` have the like, the first with this very body: the definitions name the cases of each, so one
+// conversion for all would be a trait that each hands both its cases, and no plainer.
 impl From<Result<usize, Refusal>> for StepsAnswer {
     ghost from_gives = { λ checked answer. answer_of answer ≡ told_of checked };
 

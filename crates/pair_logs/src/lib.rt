@@ -189,7 +189,8 @@ fn rest(times: &[u32], left: Unplaced, pairs: usize, list: &mut [u32]) -> Result
         (FallsFrom times.now left.from left.before) }
 {
     let mut last = left.before;
-    // By position, which is what is written.
+    // By position, which is what is written: under `enumerate` and `skip` each time takes an instruction more, and the invariant would tell of
+    // a walk that has yet to skip and of one that has.
     for i in left.from..times.len() {
         let time = times[i];
         if time < last {

@@ -60,6 +60,7 @@ fn is_among(item: Item, kinds: &[Kind]) -> bool
 }
 
 /// Whether texts fill these bytes, one behind another.
+// A loop: under `all`, that its closure may be called and what it makes of all items stayed open.
 #[tactic(auto, using(item::proofs::Turns::placed))]
 pub fn are_texts(s: &[u8]) -> bool
     ensures { result ≡ are_texts s.now }

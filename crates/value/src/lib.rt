@@ -46,6 +46,7 @@ fn value(kind: usize, content: Encoded<'_>, levels: usize) -> bool
     }
 }
 
+// A loop: under `all` its two closures join the cycle, and each wants a measure and a proof of its own.
 #[cycle(values)]
 #[tactic(auto, using(item::proofs::Turns::placed))]
 fn items(s: Encoded<'_>, levels: usize) -> bool
