@@ -103,6 +103,19 @@ pub struct Integer {
     pub magnitude: u64,
 }
 
+impl From<i64> for Integer {
+    ghost from_gives = { λ n integer. signed integer.negative integer.magnitude ≡ n };
+
+    #[tactic(auto, using(crate::proofs::Laws::by_sign))]
+    #[inline]
+    fn from(n: i64) -> Integer {
+        Integer {
+            negative: n.is_negative(),
+            magnitude: n.unsigned_abs(),
+        }
+    }
+}
+
 /// A place that was looked for.
 // An enum of its own, so that a search says `Found::At(place)` where it is taken apart.
 #[derive(Clone, Copy, Debug, PartialEq, Eq)]

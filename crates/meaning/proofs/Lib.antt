@@ -1,2 +1,3 @@
 pub mod Joined
 pub mod Open
+pub mod Fields

@@ -3,3 +3,4 @@ pub mod Record
 pub mod Sound
 pub mod Rules
 pub mod Meanings
+pub mod Fields

@@ -1,4 +1,4 @@
-// The names that have a meaning as keys of a scenario, of its defaults and steps.
+// The names that have a meaning: the top keys of a scenario, the fields of its steps, and the commands that are built in.
 #![tactic(auto)]
 
 ghost use Rattle.std.specs.Prelude.{◌≡◌};
@@ -6,7 +6,42 @@ ghost use Rattle.refusal.specs.Base.{one_of};
 ghost use Rattle.meaning.specs.Meaning.{step_fields, built_in_steps};
 ghost use Rattle.meaning.specs.Meanings.{top_keys};
 
-use item::one_of;
+use item::{one_of, same_bytes};
+
+/// The fields of a step that are its own: all keys but that of its command.
+#[derive(Clone, Copy, Debug, PartialEq, Eq)]
+pub enum StepField {
+    Name,
+    Id,
+    Timeout,
+    Continues,
+    Expect,
+}
+
+impl StepField {
+    ghost use Rattle.meaning.specs.Fields.{step_field};
+
+    /// The field that a key is, if it is one.
+    // Word by word, as top's `DefaultKey`.
+    #[tactic(auto, unfolding(crate::specs::Fields::step_field, refusal::specs::Base::bytes))]
+    pub fn of(key: &[u8]) -> Option<StepField>
+        ensures { result ≡ step_field key.now }
+    {
+        if same_bytes(key, b"name") {
+            Some(StepField::Name)
+        } else if same_bytes(key, b"id") {
+            Some(StepField::Id)
+        } else if same_bytes(key, b"timeout") {
+            Some(StepField::Timeout)
+        } else if same_bytes(key, b"continue_on_error") {
+            Some(StepField::Continues)
+        } else if same_bytes(key, b"expect") {
+            Some(StepField::Expect)
+        } else {
+            None
+        }
+    }
+}
 
 /// Whether a key of the whole scenario has a meaning.
 #[tactic(auto, unfolding(refusal::specs::Base::bytes, refusal::specs::Base::one_of, crate::specs::Meanings::top_keys))]
@@ -30,14 +65,11 @@ pub fn is_top_key(key: &[u8]) -> bool
 }
 
 /// Whether a key of a step is one of its own fields, and so names no command.
-#[tactic(auto, unfolding(refusal::specs::Base::bytes, refusal::specs::Base::one_of, crate::specs::Meaning::step_fields))]
+#[tactic(auto, using(crate::proofs::Fields::field_listed))]
 pub fn is_step_field(key: &[u8]) -> bool
     ensures { result ≡ one_of key.now step_fields }
 {
-    one_of(
-        key,
-        &[b"name", b"id", b"timeout", b"continue_on_error", b"expect"],
-    )
+    StepField::of(key).is_some()
 }
 
 /// Whether a command is built in, so that it needs no name in a list of commands.

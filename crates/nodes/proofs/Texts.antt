@@ -1,16 +1,16 @@
 -- What the items of values say: which text a value has, and an integer's sign and magnitude. Assumes nothing.
 use Rattle.std.proofs.Common.{Bor, ◌≡◌, ◌≢◌, refl, sym, ap, ◌∙◌, ℕ, suc, ◌-◌, ◌≤◌, ◌<◌, ◌^◌, arith, [], List, Bool, true, false, not, eqb, ltb, length, take, drop, get_or, ℤ, pos, negsuc}
 use Rattle.std.proofs.Math.Option.{Option, none, some}
-use Rattle.std.proofs.lemmas.Bool.{le-ltb, eq-eqb, eqb-true, false≢true}
+use Rattle.std.proofs.lemmas.Bool.{eq-eqb, eqb-true, false≢true}
 use Rattle.std.proofs.lemmas.Option.{none-some}
 use Rattle.std.specs.Int.Signed.{mag}
-use Rattle.std.specs.Int.{w64, cast_signed, is_negative}
-use Rattle.std.specs.Prelude.{nat_eq, unsigned_abs, Option as Maybe, Some, None, Result, Ok, Err, IfSome}
+use Rattle.std.specs.Int.{w64, cast_signed}
+use Rattle.std.specs.Prelude.{nat_eq, Option as Maybe, Some, None, Result, Ok, Err, IfSome}
 use Rattle.std.specs.Bool.{then_some}
 use Rattle.std.specs.Result.{result_ok}
 use Rattle.refusal.specs.Base.{maybe, bytes}
 use Rattle.item.specs.Tree.{Yaml, null, bool, int, str, seq, dict, Ranged}
-use Rattle.item.specs.Encode.{number, le, twos, flag, item, encode, signed, kind_of}
+use Rattle.item.specs.Encode.{number, le, twos, flag, item, encode, kind_of}
 use Rattle.item.specs.Places.{header_at}
 use Rattle.item.specs.Decode.{untwos}
 use Rattle.item.specs.declared.Item.{Item}
@@ -35,11 +35,6 @@ use Rattle.nodes.specs.declared.Scalar.TheVariants as scalars
 use Rattle.nodes.specs.Contract.{told_of, AgreesMapping, AgreesItems, AgreesScalar, IsItem, IsNode, FoundNode, NodeOf, IsMapping, IsItems, scalar_text, text_or_empty, or_null}
 
 -- ---- integers
-
-pub by_sign : (z : ℤ) → signed (is_negative z) (unsigned_abs z) ≡ z
-unfolding signed
-by_sign (pos n) = ap (λ (b : Bool). signed b n) (le-ltb n 0 (omega arith))
-by_sign (negsuc n) = refl
 
 pub sign-is : (n : ℕ) → cast_signed w64 n ≡ untwos n
 unfolding untwos

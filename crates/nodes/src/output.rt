@@ -5,7 +5,7 @@ ghost use Rattle.item.specs.Encode.{item, encode, signed};
 ghost use Rattle.number.specs.Integers.{int_text};
 ghost use Rattle.scalar.specs.Scalars.{bool_text};
 
-use crate::{Scalar, put};
+use crate::{Node, Scalar, put, scalar_of};
 use item::{HEADER, Integer, Kind, put_header};
 use number::{int_len, put_int_text};
 
@@ -31,9 +31,13 @@ impl<'a> RecordWriter<'a> {
 }
 
 impl RecordWriter<'_> {
+    ghost use Rattle.std.specs.Prelude.{ℕ, List};
+    ghost use Rattle.std.proofs.Math.Option.{Option};
+    ghost use Rattle.item.specs.Tree.{Yaml};
     ghost use Rattle.item.specs.Kinds.{number_of};
-    ghost use Rattle.nodes.specs.Writing.{Writes, Opens, Closes};
-    ghost use Rattle.nodes.specs.Contract.{text_of};
+    ghost use Rattle.meaning.specs.Record.{text_item, optional};
+    ghost use Rattle.nodes.specs.Writing.{GoesAtMost, Writes, Opens, Closes};
+    ghost use Rattle.nodes.specs.Contract.{text_of, ReadsFound, scalar_text, text_or_empty, or_null};
 
     /// Puts bytes behind the end, as they are.
     pub fn put(&mut self, bytes: &[u8])
@@ -107,7 +111,7 @@ impl RecordWriter<'_> {
         self.end = end;
     }
 
-    fn integer(&mut self, n: Integer)
+    fn int_text(&mut self, n: Integer)
         ensures { Writes self.old self.new (item 3 (int_text (signed n.negative n.magnitude))) }
     {
         let header = self.open();
@@ -116,14 +120,10 @@ impl RecordWriter<'_> {
     }
 
     #[tactic(auto, unfolding(scalar::specs::Scalars::bool_text, refusal::specs::Base::bytes))]
-    fn truth(&mut self, value: bool)
+    fn bool_text(&mut self, value: bool)
         ensures { Writes self.old self.new (item 3 (bool_text value)) }
     {
-        if value {
-            self.text(b"true");
-        } else {
-            self.text(b"false");
-        }
+        self.text(if value { b"true" } else { b"false" });
     }
 
     /// A scalar as a text.
@@ -131,9 +131,44 @@ impl RecordWriter<'_> {
         ensures { Writes self.old self.new (item 3 (text_of scalar.entry)) }
     {
         match scalar {
-            Scalar::Bool(value) => self.truth(value),
-            Scalar::Int(n) => self.integer(n),
+            Scalar::Bool(value) => self.bool_text(value),
+            Scalar::Int(n) => self.int_text(n),
             Scalar::Str(text) => self.text(text),
+        }
+    }
+
+    /// The text of a value that was looked for, or an empty one where there is no scalar.
+    pub fn text_or_empty(&mut self, node: Option<Node<'_>>)
+        ensures goes { GoesAtMost (2 ^ 21) self.old self.new }
+        ensures text { (t : List ℕ) → ReadsFound text_or_empty node.entry t → Writes self.old self.new (text_item t) }
+    {
+        match scalar_of(node) {
+            Some(scalar) => self.scalar(scalar),
+            None => self.text(b""),
+        }
+    }
+
+    /// The same, or null where there is no scalar.
+    // Not one method with `text_or_empty`: they differ in what stands for no text alone, and a closure for that would need a contract of its
+    // own.
+    pub fn text_or_null(&mut self, node: Option<Node<'_>>)
+        ensures goes { GoesAtMost (2 ^ 21) self.old self.new }
+        ensures text { (t : Option (List ℕ)) → ReadsFound scalar_text node.entry t → Writes self.old self.new (encode (optional t)) }
+    {
+        match scalar_of(node) {
+            Some(scalar) => self.scalar(scalar),
+            None => self.null(),
+        }
+    }
+
+    /// The item of a value that was looked for, as it stands, or null.
+    pub fn value_or_null(&mut self, node: Option<Node<'_>>)
+        ensures goes { GoesAtMost (2 ^ 21) self.old self.new }
+        ensures value { (v : Yaml) → ReadsFound or_null node.entry v → Writes self.old self.new (encode v) }
+    {
+        match node {
+            Some(node) => self.put(node.whole()),
+            None => self.null(),
         }
     }
 }

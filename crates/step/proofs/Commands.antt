@@ -15,12 +15,13 @@ use Rattle.entries.specs.Entries.{Holds, Finds, FoundAt}
 use Rattle.entries.specs.declared.Pair.{Pair}
 use Rattle.entries.proofs.Walking.{step, turn, no_more, first-ranged, others-ranged, Turn}
 use Rattle.meaning.specs.Meaning.{step_fields}
+use Rattle.meaning.specs.Fields.{step_field}
 use Rattle.meaning.specs.Meanings.{commands, command_of}
 use Rattle.step.specs.declared.Command.{Command}
 use Rattle.step.specs.declared.Command.TheVariants.{Nothing, One, More}
-use Rattle.step.specs.declared.StepField.{StepField}
-use Rattle.step.specs.declared.StepField.TheVariants.{Name, Id, Timeout, Continues, Expect}
-use Rattle.step.specs.Contract.{EntryAt, OneCommand, AgreesCommand, step_field, field_with, command_with}
+use Rattle.meaning.specs.declared.StepField.{StepField}
+use Rattle.meaning.specs.declared.StepField.TheVariants.{Name, Id, Timeout, Continues, Expect}
+use Rattle.step.specs.Contract.{EntryAt, OneCommand, AgreesCommand, field_with, command_with}
 use Rattle.item.proofs.Same.{same-eq}
 
 -- what was found so far

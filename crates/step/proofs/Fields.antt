@@ -10,7 +10,7 @@ use Rattle.entries.proofs.Values.{entries-of}
 use Rattle.nodes.specs.declared.node.Node.{Node}
 use Rattle.nodes.specs.declared.Scalar.{Scalar}
 use Rattle.nodes.specs.declared.Scalar.TheVariants as scalars
-use Rattle.nodes.specs.Contract.{FoundNode, FindsNode, AgreesScalar}
+use Rattle.nodes.specs.Contract.{IsNode, FoundNode, FindsNode, AgreesScalar}
 use Rattle.scalar.specs.Scalars.{key_text}
 use Rattle.meaning.specs.Meanings.{expect_of, is_true}
 use Rattle.step.specs.Contract.{mapping, AgreesExpect}
@@ -34,12 +34,14 @@ scalar-true (str t) None a = refl
 scalar-true (seq ys) None a = refl
 scalar-true (dict es) None a = refl
 
-pub true-told : {o : Option Yaml} {node : Node} (f : FoundNode o node) (r : Maybe Scalar) → AgreesScalar f.value r → truth_of r ≡ is_true o
-true-told f r a = scalar-true f.value r a ∙ ap is_true (sym f.is)
-
-pub true-absent : {o : Option Yaml} → o ≡ none → false ≡ is_true o
+true-absent : {o : Option Yaml} → o ≡ none → false ≡ is_true o
 unfolding is_true
 true-absent e = rw e refl
+
+pub true-found : (o : Option Yaml) (v : Maybe Node) (r : Maybe Scalar) (Gives : Node → Type 0)
+    → MatchOption v (r ≡ None) Gives → ((x : Node) → Gives x → (y : Yaml) → IsNode y x → AgreesScalar y r) → FindsNode o v → truth_of r ≡ is_true o
+true-found o None r Gives m g f = rw m (true-absent f)
+true-found o (Some x) r Gives m g f = scalar-true f.value r (g x m f.value f.node_is) ∙ ap is_true (sym f.is)
 
 other-expect : (line n : ℕ) (y : Yaml) → (kind_of y ≡ 5 → ⊥) → expect_of line n (some y) ≡ refused 33 line n
 unfolding expect_of kind_of

@@ -1,20 +1,21 @@
 -- The step of a mapping: its refusals in their order, and where its parts stand. Assumes nothing.
 use Rattle.std.proofs.Common.{◌≡◌, refl, sym, ap, ◌∙◌, subst, ℕ, ◌+◌, ◌-◌, arith, take, drop, List, Bool, not, true, false}
 use Rattle.std.proofs.Math.Option.{Option, none, some}
-use Rattle.std.specs.Prelude.{Option as Maybe, Some, None}
+use Rattle.std.specs.Prelude.{Option as Maybe, Some, None, MatchOption}
 use Rattle.std.specs.Option.{is_some}
 use Rattle.std.proofs.lemmas.Bool.{false≢true}
 use Rattle.refusal.specs.Base.{good, refused, ◌>>=◌, ◌>>◌, ensure, one_of, bytes}
 use Rattle.item.specs.Tree.{Yaml, null, bool, int, str, seq, dict, Entries, get}
 use Rattle.item.specs.Encode.{kind_of}
+use Rattle.item.specs.declared.encoded.Part.{Part}
 use Rattle.entries.proofs.Standing.{stands_at}
 use Rattle.nodes.specs.declared.node.Node.{Node}
-use Rattle.nodes.specs.Contract.{IsNode, FindsNode}
+use Rattle.nodes.specs.Contract.{IsNode, FindsNode, AgreesMapping}
 use Rattle.meaning.specs.Meaning.{built_in_steps}
 use Rattle.meaning.specs.Meanings.{scalar_at, or_empty, expect_of, commands, command_of, expect_allowed, is_true, step_of, step_at}
 use Rattle.step.specs.declared.parts.StepFields.{StepFields}
 use Rattle.step.specs.declared.parts.StepNodes.{StepNodes}
-use Rattle.step.specs.Contract.{mapping, ReadsStep, AgreesExpect, AgreesFields, OneCommand, AgreesAllowed}
+use Rattle.step.specs.Contract.{mapping, ReadsStep, AgreesExpect, AgreesFields, OneCommand, AgreesAllowed, StandsAs}
 
 -- ---- 32
 
@@ -26,6 +27,11 @@ step-32 line n (int z) k = refl
 step-32 line n (str t) k = refl
 step-32 line n (seq ys) k = refl
 step-32 line n (dict es) k = absurd (k refl)
+
+pub mapping-there : (y : Yaml) (v : Maybe Node) (r : Maybe Part) (Gives : Node → Type 0)
+    → MatchOption v (r ≡ None) Gives → ((x : Node) → Gives x → (y : Yaml) → IsNode y x → AgreesMapping y r) → StandsAs y v → AgreesMapping y r
+mapping-there y None r Gives m g i = absurd i
+mapping-there y (Some x) r Gives m g i = g x m y i
 
 -- ---- what is expected
 

@@ -1,8 +1,8 @@
 -- Section 4 of document 01, for contracts: what the readers and the writers of a step promise. Uses Base and Told of `refusal`; Tree and
 -- Encode of `item`; Entries of `entries`; Meaning and Meanings of `meaning`; Contract of `nodes`. Assumes nothing.
-use Rattle.std.specs.Prelude.{◌≡◌, ℕ, ◌-◌, ◌≤◌, List, Bool, true, false, if◌then◌else◌, take, drop, Result, Ok, Err, Option as Maybe, Some, None}
+use Rattle.std.specs.Prelude.{◌≡◌, ℕ, ◌-◌, ◌≤◌, List, Bool, true, false, take, drop, Result, Ok, Err, Option as Maybe, Some, None}
 use Rattle.std.proofs.Math.Option.{Option, none, some}
-use Rattle.refusal.specs.Base.{Answer, good, refused, ensure, bytes, same}
+use Rattle.refusal.specs.Base.{Answer, good, refused, ensure, bytes}
 use Rattle.refusal.specs.Told.{refusal}
 use Rattle.refusal.specs.declared.Refusal.{Refusal}
 use Rattle.item.specs.Tree.{Yaml, dict, Entries, Ranged, get}
@@ -17,8 +17,6 @@ use Rattle.meaning.specs.Meaning.{Step}
 use Rattle.meaning.specs.Meanings.{expect_of, commands, command_of, expect_allowed, is_true}
 use Rattle.step.specs.declared.Command.{Command}
 use Rattle.step.specs.declared.Command.TheVariants.{Nothing, One, More}
-use Rattle.step.specs.declared.StepField.{StepField}
-use Rattle.step.specs.declared.StepField.TheVariants.{Name, Id, Timeout, Continues, Expect}
 use Rattle.step.specs.declared.parts.StepFields.{StepFields}
 use Rattle.step.specs.declared.parts.StepNodes.{StepNodes}
 use Rattle.step.specs.declared.StepEntries.{StepEntries}
@@ -106,20 +104,6 @@ AgreesCommand cs (Some key) = OneCommand key.bytes.now cs key.from key.to
 AgreesCommand cs None = (n : ℕ) → command_of n cs ≡ refused 34 0 n
 
 -- ---- the fields of entries
-
-unfoldable pub step_field : List ℕ → Maybe StepField
-step_field k =
-    if same k (bytes "name")
-    then Some Name
-    else if same k (bytes "id")
-    then Some Id
-    else if same k (bytes "timeout")
-    then Some Timeout
-    else if same k (bytes "continue_on_error")
-    then Some Continues
-    else if same k (bytes "expect")
-    then Some Expect
-    else None
 
 -- with one entry more of its key: the first counts
 abbrev pub field_with : Found → ℕ → Found

@@ -10,26 +10,16 @@ ghost use Rattle.nodes.specs.Contract.{NodeOf, FindsNode, AgreesPart};
 ghost use Rattle.meaning.specs.Meaning.{Step};
 ghost use Rattle.meaning.specs.Record.{step_item};
 ghost use Rattle.meaning.specs.Meanings.{is_true, step_of, step_at};
-ghost use Rattle.step.specs.Contract.{StepStands, AgreesStep, AgreesExpect, AgreesAllowed, AgreesEntries, EntriesInside, StepInside, StandsAs, step_field, field_with, command_with};
+ghost use Rattle.step.specs.Contract.{StepStands, AgreesStep, AgreesExpect, AgreesAllowed, AgreesEntries, EntriesInside, StepInside, StandsAs, field_with, command_with};
 
 mod parts;
 
 use entries::Pair;
-use item::{Found, Kind, Part, same_bytes};
-use meaning::is_built_in;
-use nodes::{Node, RecordWriter, Scalar, put_optional, put_text, put_value};
+use item::{Found, Kind, Part};
+use meaning::{StepField, is_built_in};
+use nodes::{Node, RecordWriter, Scalar};
 pub use parts::{StepFields, StepNodes};
 use refusal::Refusal;
-
-// The keys of the step fields.
-#[derive(Clone, Copy, Debug, PartialEq, Eq)]
-enum StepField {
-    Name,
-    Id,
-    Timeout,
-    Continues,
-    Expect,
-}
 
 // The entries whose key is no step field: none, one, or more.
 #[derive(Clone, Copy, Debug, PartialEq, Eq)]
@@ -44,28 +34,6 @@ enum Command {
 struct StepEntries<'a> {
     fields: StepFields<'a>,
     command: Option<Part<'a>>,
-}
-
-impl StepField {
-    // Word by word, as top's `DefaultKey`.
-    #[tactic(auto, unfolding(crate::specs::Contract::step_field, refusal::specs::Base::bytes))]
-    fn of(key: &[u8]) -> Option<StepField>
-        ensures { result ≡ step_field key.now }
-    {
-        if same_bytes(key, b"name") {
-            Some(StepField::Name)
-        } else if same_bytes(key, b"id") {
-            Some(StepField::Id)
-        } else if same_bytes(key, b"timeout") {
-            Some(StepField::Timeout)
-        } else if same_bytes(key, b"continue_on_error") {
-            Some(StepField::Continues)
-        } else if same_bytes(key, b"expect") {
-            Some(StepField::Expect)
-        } else {
-            None
-        }
-    }
 }
 
 // A field with one entry more of its key, whose value begins at `value`: the first counts.
@@ -154,18 +122,15 @@ fn read_entries(part: Part<'_>, line: u32, number: u32) -> Result<StepNodes<'_>,
     if !fits {
         return Err(Refusal::ExpectNotMapping { line, step: number });
     }
-    let Some(command) = command else {
-        return Err(Refusal::NotOneCommand { step: number });
-    };
+    let command = command.ok_or(Refusal::NotOneCommand { step: number })?;
     let key = &command.bytes[command.from..command.to];
     let allowed = expect_allowed(fields.expect, key);
     if !allowed {
         return Err(Refusal::ExpectBesideBuiltIn { line, step: number });
     }
     // The walk has read this header, so it does not happen.
-    let Some(value) = Node::at(command.encoded(), command.to) else {
-        return Err(Refusal::NotOneCommand { step: number });
-    };
+    let value = Node::at(command.encoded(), command.to);
+    let value = value.ok_or(Refusal::NotOneCommand { step: number })?;
     Ok(StepNodes { fields, key, value })
 }
 
@@ -175,12 +140,9 @@ pub fn read_step(node: Option<Node<'_>>, line: u32, number: u32) -> Result<StepN
     ensures inside { (s : List ℕ) → NodeOf s node.entry → IfOk result (StepInside s) }
     ensures step { (y : Yaml) → StandsAs y node.entry → AgreesStep (step_at line number y) result }
 {
-    let Some(node) = node else {
-        return Err(Refusal::StepNotMapping { step: number });
-    };
-    let Some(entries) = node.mapping() else {
-        return Err(Refusal::StepNotMapping { step: number });
-    };
+    let entries = node
+        .and_then(Node::mapping)
+        .ok_or(Refusal::StepNotMapping { step: number })?;
     read_entries(entries, line, number)
 }
 
@@ -188,10 +150,7 @@ pub fn read_step(node: Option<Node<'_>>, line: u32, number: u32) -> Result<StepN
 fn is_true(node: Option<Node<'_>>) -> bool
     ensures { (o : Option Yaml) → FindsNode o node.entry → result ≡ is_true o }
 {
-    let Some(node) = node else {
-        return false;
-    };
-    match node.scalar() {
+    match node.and_then(Node::scalar) {
         Some(Scalar::Bool(value)) => value,
         Some(Scalar::Int(_)) => false,
         Some(Scalar::Str(_)) => false,
@@ -212,13 +171,13 @@ fn put_step(step: StepNodes<'_>, writer: &mut RecordWriter<'_>)
         expect,
     } = step.fields;
     let header = writer.open();
-    put_text(name, writer);
-    put_text(id, writer);
+    writer.text_or_empty(name);
+    writer.text_or_empty(id);
     writer.text(step.key);
-    put_value(Some(step.value), writer);
-    put_optional(timeout, writer);
+    writer.value_or_null(Some(step.value));
+    writer.text_or_null(timeout);
     writer.bool(is_true(continues));
-    put_value(expect, writer);
+    writer.value_or_null(expect);
     writer.close(header, Kind::Step);
 }
 

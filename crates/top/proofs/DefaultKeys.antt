@@ -219,9 +219,9 @@ other-defaults (seq ys) a b = refl
 other-defaults (dict es) a b = absurd (b refl)
 
 module _ (o : Option Yaml) where
-  pub defaults-empty : no_null o ≡ none → IsDefaults (defaults_of o) (record { timeout = None; wall_budget = None })
+  pub defaults-empty : {nodes : DefaultNodes} → nodes.timeout ≡ None → nodes.wall_budget ≡ None → no_null o ≡ none → IsDefaults (defaults_of o) nodes
   unfolding no_defaults defaults_of
-  defaults-empty e = record { read = no_defaults; is = defaults-no_null o ∙ ap defaults_of e; stands = record { timeout = nothing; wall_budget = nothing } }
+  defaults-empty t w e = record { read = no_defaults; is = defaults-no_null o ∙ ap defaults_of e; stands = record { timeout = rw t nothing; wall_budget = rw w nothing } }
 
   module _ {node : Node} (f : FoundNode (no_null o) node) where
     pub defaults-other : node.item.kind ≢ 0 → kind_of f.value ≢ 5 → defaults_of o ≡ refused 28 0 0

@@ -22,11 +22,11 @@ ghost use Rattle.top.specs.Contract.{no_null, KnownKeys, Passed, AgreesSequence,
 use entries::Pair;
 use item::{Encoded, Item, Kind, Part, same_bytes};
 use meaning::is_top_key;
-use nodes::{Node, RecordWriter, Scalar, put_optional, put_text, put_value, scalar_of, value_of};
+use nodes::{Node, RecordWriter, Scalar, scalar_of, value_of};
 use refusal::Refusal;
 
 /// The two defaults.
-#[derive(Clone, Copy, Debug)]
+#[derive(Clone, Copy, Debug, Default)]
 pub struct DefaultNodes<'a> {
     pub timeout: Option<Node<'a>>,
     pub wall_budget: Option<Node<'a>>,
@@ -130,6 +130,7 @@ fn is_collection(value: Node<'_>) -> bool
     value.is(Kind::Seq) || value.is(Kind::Map)
 }
 
+// Two locals: where the arms of a `match` write fields of one struct, the borrow checker does not cover the loop yet.
 #[tactic(auto, using(entries::proofs::Walking::places_of))]
 fn defaults_in(part: Part<'_>) -> Result<DefaultNodes<'_>, Refusal>
     ensures inside { IfOk result (DefaultsInside part.entry.bytes.now) }
@@ -165,10 +166,7 @@ fn defaults_of(value: Option<Node<'_>>) -> Result<DefaultNodes<'_>, Refusal>
     ensures defaults { (o : Option Yaml) → FindsNode o value.entry → AgreesDefaults (defaults_of o) result }
 {
     let Some(value) = other_than_null(value) else {
-        return Ok(DefaultNodes {
-            timeout: None,
-            wall_budget: None,
-        });
+        return Ok(DefaultNodes::default());
     };
     let part = value.mapping().ok_or(Refusal::DefaultsNotMapping)?;
     defaults_in(part)
@@ -250,8 +248,8 @@ fn put_defaults(defaults: DefaultNodes<'_>, writer: &mut RecordWriter<'_>)
     ensures defaults { (d : meaning.Defaults) → DefaultsStand d defaults.entry → Writes writer.old writer.new (defaults_item d) }
 {
     let header = writer.open();
-    put_optional(defaults.timeout, writer);
-    put_optional(defaults.wall_budget, writer);
+    writer.text_or_null(defaults.timeout);
+    writer.text_or_null(defaults.wall_budget);
     writer.close(header, Kind::Defaults);
 }
 
@@ -260,11 +258,11 @@ pub fn put_top(top: TopNodes<'_>, writer: &mut RecordWriter<'_>)
     ensures goes { GoesAtMost (2 ^ 42) writer.old writer.new }
     ensures fields { (t : Top) → TopStands t top.entry → Writes writer.old writer.new (joined (top_fields t)) }
 {
-    put_text(top.name, writer);
-    put_text(top.description, writer);
+    writer.text_or_empty(top.name);
+    writer.text_or_empty(top.description);
     put_tags(top.tags, writer);
-    put_text(top.image, writer);
-    put_value(top.setup, writer);
+    writer.text_or_empty(top.image);
+    writer.value_or_null(top.setup);
     put_defaults(top.defaults, writer);
     put_sequence(top.fail_on, writer);
 }

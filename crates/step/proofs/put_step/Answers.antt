@@ -10,13 +10,13 @@ unfolding encode
 returns-clause-goes c =
     let key = item_most (6 + 2 ^ 20) _ _ c.text.ensures (omega (arith, c.args.step.short)) in
     let continues = item_most 7 _ _ c.bool.ensures (omega arith) in
-    let front = most_more (most_more c.put_text.ensures.goes c.put_text-2.ensures.goes) key in
-    let parts = most_more (most_more (most_more (most_more front c.put_value.ensures.goes) c.put_optional.ensures.goes) continues) c.put_value-2.ensures.goes in
+    let front = most_more (most_more c.text_or_empty.ensures.goes c.text_or_empty-2.ensures.goes) key in
+    let parts = most_more (most_more (most_more (most_more front c.value_or_null.ensures.goes) c.text_or_null.ensures.goes) continues) c.value_or_null-2.ensures.goes in
     item_less _ c.open-header.ensures parts c.close.ensures (omega arith)
 
 pub returns-clause-step : goal.returns-clause-step
 returns-clause-step c = λ step st.
-    step-written step c.open-header.ensures (c.put_text.ensures.text step.name st.name) (c.put_text-2.ensures.text step.id st.id)
-    (writes_is (key_item st.key) c.text.ensures) (c.put_value.ensures.value step.value (value-read st)) (c.put_optional.ensures.text step.timeout st.timeout)
+    step-written step c.open-header.ensures (c.text_or_empty.ensures.text step.name st.name) (c.text_or_empty-2.ensures.text step.id st.id)
+    (writes_is (key_item st.key) c.text.ensures) (c.value_or_null.ensures.value step.value (value-read st)) (c.text_or_null.ensures.text step.timeout st.timeout)
     (writes_is (flag_item st.continue (c.is_true.ensures st.continue.value st.continue.found)) c.bool.ensures)
-    (c.put_value-2.ensures.value _ (expected-read step.expect st.expect)) c.close.ensures
+    (c.value_or_null-2.ensures.value _ (expected-read step.expect st.expect)) c.close.ensures

@@ -9,7 +9,7 @@ use Rattle.top.proofs.DefaultKeys.{defaults-empty, defaults-other, mapped-is}
 use Rattle.top.proofs.defaults_of.Goals as goal
 
 pub returns-in_default-clause-defaults : goal.returns-in_default-clause-defaults
-returns-in_default-clause-defaults c = λ o h. defaults-empty o (rw c.in_default.is at (c.other_than_null.ensures.value o h))
+returns-in_default-clause-defaults c = λ o h. defaults-empty o c.default.ensures.0 c.default.ensures.1 (rw c.in_default.is at (c.other_than_null.ensures.value o h))
 
 pub returns-in_err-part-clause-defaults : goal.returns-in_err-part-clause-defaults
 returns-in_err-part-clause-defaults c = λ o h.

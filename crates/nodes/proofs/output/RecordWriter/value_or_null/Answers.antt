@@ -4,7 +4,7 @@ use Rattle.item.specs.Encode.{encode}
 use Rattle.nodes.specs.Contract.{FindsNode}
 use Rattle.nodes.proofs.Writing.{writes_is, item_most}
 use Rattle.nodes.proofs.Texts.{value-part, no-value}
-use Rattle.nodes.proofs.put_value.Goals as goal
+use Rattle.nodes.proofs.output.RecordWriter.value_or_null.Goals as goal
 
 pub returns-in-None-clause-goes : goal.returns-in-None-clause-goes
 unfolding encode
