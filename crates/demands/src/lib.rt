@@ -190,6 +190,7 @@ fn item_of<L: Fn(&[u8], usize) -> Lookup>(record: &[u8], find: L, number: usize)
 }
 
 /// The item that a place finds.
+// This and `step_item` stand side by side, as `text_field` and `text_step` do.
 pub fn field_item(record: &[u8], place: usize) -> &[u8]
     ensures { ItemShown jobs.field fields «record».now place result.now }
 {

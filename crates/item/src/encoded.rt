@@ -13,6 +13,7 @@ pub struct Encoded<'a> {
 }
 
 /// The part of such bytes from `from` to `to`, where items or entries stand one behind another. Its places are those of all bytes.
+// Which they are is said in each clause (`HoldsIn`, `LiesIn`), and by no ghost field: only the clause knows them.
 #[derive(Clone, Copy, Debug)]
 pub struct Part<'a> {
     pub bytes: &'a [u8],

@@ -117,7 +117,7 @@ impl From<i64> for Integer {
 }
 
 /// A place that was looked for.
-// An enum of its own, so that a search says `Found::At(place)` where it is taken apart.
+// An enum of its own, as a rule of the project has it: a search says `Found::At(place)` where it is taken apart, and contracts name its cases.
 #[derive(Clone, Copy, Debug, PartialEq, Eq)]
 pub enum Found {
     At(usize),

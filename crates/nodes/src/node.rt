@@ -23,6 +23,8 @@ impl<'a> Node<'a> {
     ghost use Rattle.nodes.specs.Contract.{IsNode, FindsNode, AgreesMapping, AgreesItems, AgreesInteger, AgreesScalar, text_of};
 
     /// What begins at a place of any bytes.
+    // `Ranged` and `Stands` go side by side in the clause, as wherever a value stands in bytes: one name for both would be a pair that each proof
+    // takes apart.
     pub fn at(s: Encoded<'a>, place: usize) -> Option<Node<'a>>
         ensures bytes { IfSome result (λ node. node.bytes ≡ s.entry.bytes) }
         ensures place { IfSome result (λ node. node.item.from ≡ place + 6) }

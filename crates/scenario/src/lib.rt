@@ -37,7 +37,7 @@ pub enum ScenarioAnswer {
 
 // What the answer tells of a reading, so that `read` hands refusals on by `?`. One `match` makes the answer of it where a refusal clears the
 // outputs; a `From` beside that asks which of the two it is twice.
-#[derive(Clone, Copy, Debug, PartialEq, Eq)]
+#[derive(Clone, Copy)]
 struct Sizes {
     tree_bytes: usize,
     record_bytes: usize,

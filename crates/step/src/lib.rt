@@ -22,7 +22,7 @@ pub use parts::{StepFields, StepNodes};
 use refusal::Refusal;
 
 // The entries whose key is no step field: none, one, or more.
-#[derive(Clone, Copy, Debug, PartialEq, Eq)]
+#[derive(Clone, Copy)]
 enum Command {
     Nothing,
     One { key: usize, value: usize },
@@ -30,7 +30,7 @@ enum Command {
 }
 
 // What entries say: the step fields, and where the key of the command stands, if there is one command. Its value begins where the key ends.
-#[derive(Clone, Copy, Debug)]
+#[derive(Clone, Copy)]
 struct StepEntries<'a> {
     fields: StepFields<'a>,
     command: Option<Part<'a>>,

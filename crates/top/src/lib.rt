@@ -33,7 +33,7 @@ pub struct DefaultNodes<'a> {
 }
 
 // The keys of the defaults.
-#[derive(Clone, Copy, Debug, PartialEq, Eq)]
+#[derive(Clone, Copy)]
 enum DefaultKey {
     Timeout,
     WallBudget,
