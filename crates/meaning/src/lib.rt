@@ -24,6 +24,7 @@ impl StepField {
     /// The field that a key is, if it is one.
     // Word by word, as top's `DefaultKey`.
     #[tactic(auto, unfolding(crate::specs::Fields::step_field, refusal::specs::Base::bytes))]
+    #[inline]
     pub fn of(key: &[u8]) -> Option<StepField>
         ensures { result ≡ step_field key.now }
     {
