@@ -22,8 +22,8 @@ pub struct Span {
 }
 
 /// An entry: where its key's text begins and ends, which is where its value's item begins; the value's kind and its end.
-// Its key is no method: a part between two places is known by computation, what a call answers by an equation, by which the answers of six
-// functions would first rewrite.
+// Its key is no method: a part between two places is known by computation, what a call answers by an equation, by which the answers of all
+// who ask for it would first rewrite.
 #[derive(Clone, Copy, Debug, PartialEq, Eq)]
 pub struct Pair {
     pub start: usize,

@@ -1,5 +1,5 @@
 -- How the lines of a text end: a blank one stands before one of its indentation, and any other one ends in a byte other than a
--- newline. So the table of a text's lines is ready to be read. Assumes nothing.
+-- newline. So the rows of a text's lines are ready to be read. Assumes nothing.
 use Rattle.std.specs.Prelude.{if◌then◌else◌}
 use Rattle.std.proofs.Common.{◌≡◌, refl, sym, ap, ◌∙◌, subst, ℕ, zero, suc, ◌-◌, ◌≤◌, List, [], ◌∷◌, ◌++◌, append_assoc, Bool, true, false, ltb, length, drop, arith}
 use Rattle.std.proofs.Math.Bool.{false≢true}

@@ -1,4 +1,4 @@
--- The lines of a table, one by one. Assumes nothing.
+-- The lines that rows stand for, one by one. Assumes nothing.
 use Rattle.std.proofs.Common.{◌≡◌, ℕ, ◌+◌, ◌<◌, add-one, arith, List, [], ◌∷◌, length, drop, get_or, drop_of_length-le, drop-cons}
 use Rattle.std.proofs.lemmas.List.{length-map, get_or-map}
 use Rattle.lines.specs.declared.Row.{Row}

@@ -1,4 +1,4 @@
--- Section 1 of document 01, for contracts: the table of rows, and the lines that they stand for. Uses Base of `refusal`; Part of `utf8`;
+-- Section 1 of document 01, for contracts: the lines that rows stand for. Uses Base of `refusal`; Part of `utf8`;
 -- Lines of this crate. Assumes nothing.
 use Rattle.std.specs.Prelude.{ℕ, ◌≤◌, List, [], ◌++◌, map, length, slice_index_or}
 use Rattle.std.specs.List.{All}

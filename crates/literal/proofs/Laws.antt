@@ -9,7 +9,7 @@ use Rattle.item.specs.Tree.{Yaml}
 use Rattle.item.specs.Encode.{encode}
 use Rattle.writer.specs.declared.Writer.{Writer}
 use Rattle.writer.specs.Writing.{cap_of, Appends, Lacks}
-use Rattle.writer.proofs.Laws.{appends_more, appends_item, len_appended, keeps_same}
+use Rattle.writer.proofs.Laws.{appends_more, len_appended, keeps_same}
 use Rattle.lines.specs.Lines.{Line}
 use Rattle.lines.specs.Table.{line_at}
 use Rattle.lines.specs.Ready.{Ended, AreLines}

@@ -1,4 +1,4 @@
--- What is answered for a literal of the table's lines. Assumes nothing.
+-- What is answered for a literal of a text's lines. Assumes nothing.
 use Rattle.std.proofs.Common.{if◌then◌else◌, ◌≡◌, refl, sym, ap, ◌∙◌, ℕ, ◌+◌, ◌-◌, ◌≤◌, ◌<◌, arith, List, [], Bool, true, false, length, take, drop, length-append, length-take-le, lt-ltb, le-ltb}
 use Rattle.refusal.specs.declared.Refusal.{Refusal}
 use Rattle.refusal.specs.declared.Refusal.TheVariants.{WorkTooShort}

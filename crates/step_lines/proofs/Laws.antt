@@ -1,4 +1,4 @@
--- Step lines by the entries of the table. Assumes nothing.
+-- Step lines by the lines of a text. Assumes nothing.
 use Rattle.std.specs.Prelude.{Option, Some, None, MatchOption, leb, ltb, take, Bool, get_or}
 use Rattle.std.specs.List.{range_with_len, prefix_len, AllWithin, HoldsAt}
 use Rattle.std.proofs.lemmas.List.FromFn.{get_or-range_with_len, length-range_with_len}
