@@ -10,11 +10,13 @@ ghost use Rattle.check_steps.specs.CheckSteps as checks;
 ghost use Rattle.lookups.specs.Lookups as lookups;
 ghost use Rattle.share.specs.Share as shares;
 ghost use Rattle.pair_logs.specs.PairLogs as pairings;
+ghost use Rattle.panel.specs.Jobs as panels;
 ghost use Rattle.drum.specs.Numbers.{numbers, of_none, of_one, of_three, of_four, of_found, first_of};
 
 use check_steps::StepsAnswer;
 use lookups::TimesAnswer;
 use pair_logs::PairAnswer;
+use panel::{PanelName, PanelStep};
 use record::{Lookup, RecordAnswer};
 use refusal::Refusal;
 use scenario::ScenarioAnswer;
@@ -161,6 +163,33 @@ impl Answer for PairAnswer {
                 lone_sounds,
             } => accepted(pairs, lone_hammers, lone_sounds, 0),
             PairAnswer::Refused(e) => refused(e),
+        }
+    }
+}
+
+impl Answer for PanelName {
+    ghost as_told = { λ a. numbers of_three (panels.name_of a) };
+
+    fn numbers(self) -> [u64; 5] {
+        match self {
+            PanelName::Named { start, end, steps } => accepted(start, end, steps, 0),
+            PanelName::Refused(e) => refused(e),
+        }
+    }
+}
+
+impl Answer for PanelStep {
+    ghost as_told = { λ a. numbers of_four (panels.step_of a) };
+
+    fn numbers(self) -> [u64; 5] {
+        match self {
+            PanelStep::Found {
+                name_start,
+                name_end,
+                id_start,
+                id_end,
+            } => accepted(name_start, name_end, id_start, id_end),
+            PanelStep::Refused(e) => refused(e),
         }
     }
 }

@@ -10,6 +10,7 @@ ghost use Rattle.check_steps.specs.CheckSteps.{check_steps};
 ghost use Rattle.lookups.specs.Lookups as lookup;
 ghost use Rattle.pair_logs.specs.PairLogs as logs;
 ghost use Rattle.pair_logs.specs.PairLogs.{pair_logs, counts_of, pair_numbers, hammer_numbers, sound_numbers};
+ghost use Rattle.panel.specs.Jobs as panels;
 ghost use Rattle.share.specs.Share as shared;
 ghost use Rattle.share.specs.Share.{numbers_of};
 ghost use Rattle.drum.specs.Numbers.{numbers, of_none, of_one, of_three, of_four, of_found, first_of, told};
@@ -180,4 +181,22 @@ pub fn drum_pair_logs(
         pair_logs::pair_logs(hammers, sounds, pairs, lone_hammers, lone_sounds),
         answer,
     )
+}
+
+/// What a panel shows of a programme: where the item of its name begins and ends in the record, and how many steps there are.
+pub fn drum_panel_name(record: &[u8], answer: &mut [u64]) -> u32
+    ensures result { result ≡ first_of (numbers of_three (panels.panel_name «record».now)) }
+    ensures answer { answer.new ≡ told (numbers of_three (panels.panel_name «record».now))
+        answer.old }
+{
+    tell(panel::panel_name(record), answer)
+}
+
+/// What a panel shows of the step with this number: where the items of its name and of its id begin and end in the record.
+pub fn drum_panel_step(record: &[u8], number: usize, answer: &mut [u64]) -> u32
+    ensures result { result ≡ first_of (numbers of_four (panels.panel_step «record».now number)) }
+    ensures answer { answer.new ≡ told (numbers of_four (panels.panel_step «record».now number))
+        answer.old }
+{
+    tell(panel::panel_step(record, number), answer)
 }

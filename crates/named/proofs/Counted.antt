@@ -9,9 +9,9 @@ use Rattle.refusal.proofs.Tools.{refused≢good}
 use Rattle.scalar.specs.Read.{charge}
 use Rattle.named.specs.Named.{lined, stepped}
 
--- what a refusal names counts from 1; the numbers from 61 on are those of other jobs
+-- what a refusal names counts from 1; the numbers from 55 on are those of other jobs
 pub record Counted (n l s : ℕ) : Type 0 where
-  pub own : leb 61 n ≡ false
+  pub own : leb 55 n ≡ false
   pub line : lined n ≡ true → 1 ≤ l
   pub step : stepped n ≡ true → 1 ≤ s
 
@@ -30,15 +30,15 @@ refuses {A} k i j c n l s e =
     rw (← x, ← y, ← z) c
 
 -- no line and no step
-pub plainly : {A : Type 0} {k : ℕ} → lined k || leb 61 k ≡ false → stepped k ≡ false → Counts {A = A} (refused k 0 0)
+pub plainly : {A : Type 0} {k : ℕ} → lined k || leb 55 k ≡ false → stepped k ≡ false → Counts {A = A} (refused k 0 0)
 plainly {k = k} p q =
-    let (p, o) = or_parts (lined k) (leb 61 k) p in
+    let (p, o) = or_parts (lined k) (leb 55 k) p in
     refuses k 0 0 (record { own = o; line = λ e. absurd (false≢true (sym p ∙ e)); step = λ e. absurd (false≢true (sym q ∙ e)) })
 
 -- a step
-pub stepwise : {A : Type 0} {k l s : ℕ} → lined k || leb 61 k ≡ false → 1 ≤ s → Counts {A = A} (refused k l s)
+pub stepwise : {A : Type 0} {k l s : ℕ} → lined k || leb 55 k ≡ false → 1 ≤ s → Counts {A = A} (refused k l s)
 stepwise {k = k} {l} {s} p h =
-    let (p, o) = or_parts (lined k) (leb 61 k) p in
+    let (p, o) = or_parts (lined k) (leb 55 k) p in
     refuses k l s (record { own = o; line = λ e. absurd (false≢true (sym p ∙ e)); step = λ _. h })
 
 pub binds : {A B : Type 0} {a : Answer A} {f : A → Answer B} → Counts a → ((x : A) → Counts (f x)) → Counts (a >>= f)

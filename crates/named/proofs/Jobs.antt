@@ -34,7 +34,7 @@ unfolding check_schema lined stepped
 schemas none = plainly refl refl
 schemas (some s) = ensures (same s schema) (plainly refl refl)
 
-sequences : (k : ℕ) → lined k || leb 61 k ≡ false → stepped k ≡ false → (o : Option Yaml) → Counts (sequence_or k o)
+sequences : (k : ℕ) → lined k || leb 55 k ≡ false → stepped k ≡ false → (o : Option Yaml) → Counts (sequence_or k o)
 unfolding sequence_or
 sequences k p q none = never
 sequences k p q (some null) = never

@@ -7,7 +7,7 @@ use Rattle.refusal.proofs.Tools.{refused≢good}
 use Rattle.refusal.specs.declared.Refusal.{Refusal}
 use Rattle.refusal.specs.declared.Refusal.TheVariants.{TooManyLines, TabInIndentation, DocumentMarker, LinesLeft, AnchorAliasOrTag, TextAfterValue, FlowMappingOpen, FlowSequenceOpen, EscapeCut, UnknownEscape, QuoteOpen, EmptyKey, ComplexKey}
 use Rattle.refusal.specs.declared.Refusal.TheVariants.{KeyNotScalar, KeyWithoutColon, KeyTwice, StuckSequence, TooDeep}
-use Rattle.refusal.specs.declared.Refusal.TheVariants.{StepNotMapping, ExpectNotMapping, NotOneCommand, ExpectBesideBuiltIn, UnknownCommand, RepeatWithoutSteps, TimesNotPositive, TimesTooLarge, WishesOutOfRange, SupplyTooSmall, LogFalls, LogTooLong, ListTooShort}
+use Rattle.refusal.specs.declared.Refusal.TheVariants.{StepNotMapping, ExpectNotMapping, NotOneCommand, ExpectBesideBuiltIn, UnknownCommand, RepeatWithoutSteps, TimesNotPositive, TimesTooLarge, NotForPanel, WishesOutOfRange, SupplyTooSmall, LogFalls, LogTooLong, ListTooShort}
 use Rattle.tree.specs.Tree as trees
 use Rattle.tree.specs.declared.TreeAnswer.{TreeAnswer}
 use Rattle.tree.specs.declared.TreeAnswer.TheVariants as tree_answer
@@ -30,9 +30,9 @@ use Rattle.named.proofs.Counted.{Counts}
 use Rattle.named.proofs.Trees.{tree-counted}
 use Rattle.named.proofs.Jobs.{scenario-counted, record-counted, field-counted, number-counted, check-counted, id-counted, value-counted, times-counted}
 
--- what a refusal does not name is 0: the type says so; below 61 its number is one of document 01's
+-- what a refusal does not name is 0: the type says so; below 55 its number is one of document 01's
 record Zeros (n l s : ℕ) : Type 0 where
-  is_given : leb 61 n ≡ false → given n ≡ true
+  is_given : leb 55 n ≡ false → given n ≡ true
   no_line : lineless n ≡ true → l ≡ 0
   no_step : stepped n ≡ false → s ≡ 0
 
@@ -48,7 +48,7 @@ step-named n s k h = record { is_given = λ _. k; no_line = λ _. refl; no_step 
 both-named : (n l s : ℕ) → given n ≡ true → lineless n ≡ false → stepped n ≡ true → Zeros n l s
 both-named n l s k h i = record { is_given = λ _. k; no_line = λ e. absurd (false≢true (sym h ∙ e)); no_step = λ e. absurd (false≢true (sym e ∙ i)) }
 
-of-another : (n : ℕ) → leb 61 n ≡ true → Zeros n 0 0
+of-another : (n : ℕ) → leb 55 n ≡ true → Zeros n 0 0
 of-another n k = record { is_given = λ e. absurd (false≢true (sym e ∙ k)); no_line = λ _. refl; no_step = λ _. refl }
 
 zeros : (e : Refusal) → Zeros (told_of e).number (told_of e).line (told_of e).step
@@ -79,6 +79,7 @@ zeros (UnknownCommand line step) = both-named 36 line step refl refl refl
 zeros (RepeatWithoutSteps step) = step-named 37 step refl refl
 zeros (TimesNotPositive step) = step-named 38 step refl refl
 zeros (TimesTooLarge step) = step-named 39 step refl refl
+zeros NotForPanel = of-another 55 refl
 zeros WishesOutOfRange = of-another 61 refl
 zeros SupplyTooSmall = of-another 62 refl
 zeros LogFalls = of-another 63 refl

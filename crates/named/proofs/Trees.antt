@@ -29,9 +29,9 @@ use Rattle.named.proofs.Counted.{Counts, never, refuses, plainly, binds, next, i
 -- ---- one line
 
 module _ (cap n : ℕ) (counts : 1 ≤ n) where
-  stops : {A : Type 0} {k : ℕ} → stepped k || leb 61 k ≡ false → Counts {A = A} (refused k n 0)
+  stops : {A : Type 0} {k : ℕ} → stepped k || leb 55 k ≡ false → Counts {A = A} (refused k n 0)
   stops {k = k} q =
-      let (q, o) = or_parts (stepped k) (leb 61 k) q in
+      let (q, o) = or_parts (stepped k) (leb 55 k) q in
       refuses k n 0 (record { own = o; line = λ _. counts; step = λ e. absurd (false≢true (sym q ∙ e)) })
 
   scalars : (role : Role) (sum : ℕ) (y : Yaml) (rest : List ℕ) → Counts (scalar cap n role sum y rest)
@@ -326,7 +326,7 @@ module _ (cap : ℕ) where
 
 abbrev EventOk : Event → Type 0
 EventOk (entry l) = 1 ≤ l.number
-EventOk (bad k n) = (1 ≤ n) × (stepped k || leb 61 k ≡ false)
+EventOk (bad k n) = (1 ≤ n) × (stepped k || leb 55 k ≡ false)
 
 abbrev Events : List Event → Type 0
 Events es = All EventOk es
@@ -365,7 +365,7 @@ record Lists (a : Answer (List Line)) : Type 0 where
 listed : {ls : List Line} → Numbered ls → Lists (good ls)
 listed {ls} h = record { refusals = never; numbered = λ k e. subst Numbered (good-inj ls k e) h }
 
-unlisted : {k n : ℕ} → 1 ≤ n → stepped k || leb 61 k ≡ false → Lists (refused k n 0)
+unlisted : {k n : ℕ} → 1 ≤ n → stepped k || leb 55 k ≡ false → Lists (refused k n 0)
 unlisted {k} {n} h q = record { refusals = stops 0 n h q; numbered = λ ls e. refused≢good ls k n 0 e }
 
 collects : (room : ℕ) (es : List Event) → Events es → Lists (collect room es)

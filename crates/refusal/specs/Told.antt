@@ -11,7 +11,7 @@ use Rattle.refusal.specs.declared.Refusal.TheVariants.{UnknownTopKey, OtherSchem
 use Rattle.refusal.specs.declared.Refusal.TheVariants.{DefaultsNotMapping, UnknownDefault, DefaultNotScalar, StepsNotSequence, StepNotMapping}
 use Rattle.refusal.specs.declared.Refusal.TheVariants.{ExpectNotMapping, NotOneCommand, ExpectBesideBuiltIn, UnknownCommand, RepeatWithoutSteps}
 use Rattle.refusal.specs.declared.Refusal.TheVariants.{TimesNotPositive, TimesTooLarge, Malformed, WorkTooShort, TooFewLinePlaces, RecordTooLong}
-use Rattle.refusal.specs.declared.Refusal.TheVariants.{OutOfRange, WishesOutOfRange, SupplyTooSmall, LogFalls, LogTooLong, ListTooShort}
+use Rattle.refusal.specs.declared.Refusal.TheVariants.{OutOfRange, NotForPanel, WishesOutOfRange, SupplyTooSmall, LogFalls, LogTooLong, ListTooShort}
 
 abbrev pub told : ℕ → ℕ → ℕ → Told
 told n l s = record { number = n; line = l; step = s }
@@ -61,6 +61,7 @@ told_of WorkTooShort = told 50 0 0
 told_of TooFewLinePlaces = told 51 0 0
 told_of RecordTooLong = told 52 0 0
 told_of OutOfRange = told 53 0 0
+told_of NotForPanel = told 55 0 0
 told_of WishesOutOfRange = told 61 0 0
 told_of SupplyTooSmall = told 62 0 0
 told_of LogFalls = told 63 0 0

@@ -1,0 +1,3 @@
+pub mod Panel
+pub mod Jobs
+pub mod Contract
