@@ -1,16 +1,13 @@
 -- Steps one behind another: what is made of each, how many there are, and the one with a number. Assumes nothing.
-use Rattle.std.proofs.Common.{◌≡◌, refl, sym, ap, ◌∙◌, subst, ℕ, zero, suc, ◌+◌, ◌≤◌, ◌<◌, arith, List, [], ◌∷◌, Bool, true, false, length, take, Option, None, Some, Result, Ok, Err, slice_get, length-take-le}
-use Rattle.std.specs.Prelude.{is_some}
+use Rattle.std.proofs.Common.{◌≡◌, refl, sym, ap, ◌∙◌, subst, ℕ, zero, suc, ◌+◌, ◌<◌, arith, List, [], ◌∷◌, length, take, Option, None, Some, Ok, Err, slice_get}
 use Rattle.std.specs.Option.{option_map}
-use Rattle.std.specs.Result.{result_ok}
-use Rattle.std.specs.Bool.{then_some}
 use Rattle.item.specs.Places.{header_at}
 use Rattle.item.specs.declared.Item.{Item}
 use Rattle.item.specs.declared.Broken.{Broken}
-use Rattle.panel.specs.Panel.{◌>>=◌, items_from, items_in, is_text, text_of, labels_of, each, steps_in, numbered}
-use Rattle.panel.specs.Contract.{text_from, Inside, NthFrom}
+use Rattle.panel.specs.Panel.{◌>>=◌, items_from, items_in, labels_of, each, steps_in, numbered}
+use Rattle.panel.specs.Contract.{NthFrom}
 use Rattle.panel.specs.declared.Labels.{Labels}
-use Rattle.panel.proofs.Items.{never, items-end, items-stop, items-on, items-first, First}
+use Rattle.panel.proofs.Items.{never, items-end, items-stop, items-on}
 
 -- ---- what is made of each
 

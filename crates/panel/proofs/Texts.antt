@@ -1,8 +1,8 @@
 -- The text at a place, and what it tells of the items from there on; from these a step's labels and the whole record. Assumes nothing.
-use Rattle.std.proofs.Common.{◌≡◌, refl, sym, ap, ◌∙◌, ℕ, ◌+◌, ◌-◌, ◌≤◌, ◌<◌, arith, List, [], ◌∷◌, Bool, true, false, ◌&&◌, length, take, drop, Option, None, Some, Result, Ok, Err, slice_get, take_all, eqb-true}
+use Rattle.std.proofs.Common.{◌≡◌, refl, sym, ap, ◌∙◌, ℕ, ◌+◌, ◌-◌, ◌≤◌, arith, List, [], ◌∷◌, Bool, true, false, ◌&&◌, length, take, drop, Option, None, Some, Result, Ok, Err, slice_get, take_all, eqb-true}
 use Rattle.std.proofs.lemmas.Bool.{and_parts, false≢true}
 use Rattle.std.proofs.lemmas.List.{drop-take, take-take, length-take}
-use Rattle.std.specs.Prelude.{if◌then◌else◌, is_some, slice_range, min, ◌==◌}
+use Rattle.std.specs.Prelude.{if◌then◌else◌, is_some, slice_range, ◌==◌}
 use Rattle.std.specs.Option.{option_map}
 use Rattle.std.specs.Result.{result_ok}
 use Rattle.std.specs.Bool.{then_some}
@@ -65,7 +65,7 @@ module _ (s content : List ℕ) where
 -- ---- a step
 
 module _ (s : List ℕ) (n : ℕ) where
-  range-cut : (from to : ℕ) → from ≤ to → to ≤ n → slice_range (take n s) from to ≡ slice_range s from to
+  pub range-cut : (from to : ℕ) → from ≤ to → to ≤ n → slice_range (take n s) from to ≡ slice_range s from to
   range-cut from to h k =
       let e : n ≡ from + (n - from) = omega arith in
       ap (λ (k : ℕ). take (to - from) (drop from (take k s))) e ∙ ap (take (to - from)) (drop-take from (n - from) s) ∙ take-take (to - from) (n - from) (drop from s) (omega arith)

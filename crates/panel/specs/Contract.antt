@@ -1,5 +1,5 @@
 -- What the inner functions promise. Uses Places of `item`; Panel of this crate. Assumes nothing.
-use Rattle.std.specs.Prelude.{◌≡◌, ℕ, ◌+◌, ◌≤◌, List, length, slice_get, Option, None, Some}
+use Rattle.std.specs.Prelude.{◌≡◌, ℕ, ◌≤◌, List, length, slice_get, Option, None, Some}
 use Rattle.std.specs.Result.{result_ok}
 use Rattle.item.specs.Places.{header_at}
 use Rattle.item.specs.declared.Item.{Item}

@@ -1,3 +1,4 @@
 pub mod Panel
 pub mod Jobs
+pub mod Programmes
 pub mod Contract

@@ -80,6 +80,6 @@ programme s = do
   Some (record { name = name; steps = steps })
 
 -- steps are numbered from 1
-unfoldable pub numbered : List Labels → ℕ → Option Labels
+unfoldable pub numbered : {A : Type 0} → List A → ℕ → Option A
 numbered steps zero = None
 numbered steps (suc i) = slice_get steps i

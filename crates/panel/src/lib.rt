@@ -9,6 +9,7 @@ ghost use Rattle.panel.specs.Panel.{items_from, labels_of, steps_in, numbered};
 ghost use Rattle.panel.specs.declared.Labels.{Labels as Named};
 ghost use Rattle.panel.specs.Jobs as definition;
 ghost use Rattle.panel.specs.Jobs.{name_of, step_of};
+ghost use Rattle.panel.specs.Programmes.{ShowsName, ShowsStep};
 ghost use Rattle.panel.specs.Contract.{text_from, Inside, LabelsInside, NthFrom, SeesProgramme};
 
 use entries::nth_item;
@@ -154,7 +155,8 @@ fn labels_at(s: &[u8], list: Item, number: usize) -> Option<Labels>
 /// there is no limit on the record's size. Refused with 55 where the bytes are not one item of kind 16 that is filled by items, of which the
 /// first is the name and the eighth is filled by steps, each of them filled by items that begin with its name and its id.
 pub fn panel_name(record: &[u8]) -> PanelName
-    ensures { name_of result ≡ definition.panel_name «record».now }
+    ensures answer { name_of result ≡ definition.panel_name «record».now }
+    ensures programmes { ShowsName «record».now (name_of result) }
 {
     let Some(Programme { name, steps, .. }) = read_programme(record) else {
         return PanelName::Refused(Refusal::NotForPanel);
@@ -168,7 +170,8 @@ pub fn panel_name(record: &[u8]) -> PanelName
 
 /// The name and the id of the step with this number, from 1 on. Refused with 55 like the name, then with 53 where there is no such step.
 pub fn panel_step(record: &[u8], number: usize) -> PanelStep
-    ensures { step_of result ≡ definition.panel_step «record».now number }
+    ensures answer { step_of result ≡ definition.panel_step «record».now number }
+    ensures programmes { ShowsStep «record».now number (step_of result) }
 {
     let Some(Programme { list, .. }) = read_programme(record) else {
         return PanelStep::Refused(Refusal::NotForPanel);

@@ -1,5 +1,5 @@
 -- One item after the other. Assumes nothing.
-use Rattle.std.proofs.Common.{◌≡◌, sym, ap, ◌∙◌, ℕ, arith}
+use Rattle.std.proofs.Common.{sym, ap, ◌∙◌, ℕ, arith}
 use Rattle.std.specs.Prelude.{is_some}
 use Rattle.item.proofs.Turns.{turn, stop}
 use Rattle.panel.specs.Panel.{items_from}

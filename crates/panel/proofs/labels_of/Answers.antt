@@ -1,5 +1,5 @@
 -- Items, of which the first two are texts. Assumes nothing.
-use Rattle.std.proofs.Common.{sym, ◌∙◌}
+use Rattle.std.proofs.Common.{◌∙◌}
 use Rattle.panel.proofs.Texts.{no-name, no-id, both}
 use Rattle.panel.proofs.labels_of.Goals as goal
 

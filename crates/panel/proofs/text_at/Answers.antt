@@ -1,7 +1,6 @@
 -- The item, if it is a text. Assumes nothing.
-use Rattle.std.proofs.Common.{sym, ap, ◌∙◌}
+use Rattle.std.proofs.Common.{ap, ◌∙◌}
 use Rattle.std.specs.Bool.{then_some}
-use Rattle.std.specs.Result.{result_ok}
 use Rattle.panel.specs.Panel.{is_text, text_of}
 use Rattle.panel.specs.Contract.{text_from}
 use Rattle.panel.proofs.Items.{if-then}
