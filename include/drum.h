@@ -1,5 +1,5 @@
-/* The drum reader: programme texts to records, what can be asked of a record, how drums share a supply, and what a microphone heard of the
- * hammers.
+/* The drum reader: programme texts to records, what can be asked of a record, what a panel shows of one, how drums share a supply, and what a
+ * microphone heard of the hammers.
  *
  *     bindings/library                                      writes target/staticlib/libdrum.a (x86-64 Linux)
  *     cc -Iinclude player.c target/staticlib/libdrum.a
@@ -18,8 +18,9 @@
  * Stack. See DRUM_STACK.
  *
  * Time. Reading takes time in proportion to the text and its tree, the check of a record in proportion to its bytes; mappings whose keys were
- * made to look alike cost more, some 0.3 seconds at most in a record of 1,048,576 bytes. Every lookup checks the record first. Two logs take
- * time in proportion to their lengths. docs/SPEED.md has what was measured, and the bounds. */
+ * made to look alike cost more, some 0.3 seconds at most in a record of 1,048,576 bytes. Every lookup checks the record first. Both calls of
+ * a panel take time in proportion to the bytes, whatever these are. Two logs take time in proportion to their lengths. docs/SPEED.md has what
+ * was measured, and the bounds. */
 #ifndef DRUM_H
 #define DRUM_H
 
@@ -105,6 +106,21 @@ uint32_t drum_value_by_key(const uint8_t *record, size_t record_len, size_t numb
 /* How often the step with this number is repeated: the value beside its key `times`. Accepted: that number, from 1 to 4,294,967,295. Refused
  * with 38 or 39 for another value or none, and like the lookups. */
 uint32_t drum_times(const uint8_t *record, size_t record_len, size_t number, uint64_t *answer, size_t answer_len);
+
+/* What a panel shows of a record. A panel on a wall outlives drums, so it takes records with kinds that this library does not know: it looks
+ * at the programme's name and at each step's name and id, and passes over every other item by its length, whatever its kind and content.
+ * Accepted is one item of kind 16, with nothing behind it, that items fill: the first is the programme's name, the eighth, of any kind, is
+ * filled by the steps, and more may follow. A step is an item of any kind that items fill: the first is its name, the second its id, and more
+ * may follow. Names and ids are of kind 3, in UTF-8. What drum_check_record accepts is accepted here too, with the count, the names and the
+ * ids that the lookups give; and no size is too large. Refused with 55 for all other bytes, whatever is asked for, since every step is judged
+ * before anything is given. No refusal names a line or a step. Items are told by where they begin and end, headers included, as above. */
+
+/* The programme's name. Accepted: where its item begins, where it ends, and the number of steps. */
+uint32_t drum_panel_name(const uint8_t *record, size_t record_len, uint64_t *answer, size_t answer_len);
+
+/* The name and the id of the step with this number, from 1 on. Accepted: where the name's item begins and where it ends, then the same of the
+ * id's; either is empty if there is none. Refused with 53 for a number that is 0 or above the number of steps, where not with 55. */
+uint32_t drum_panel_step(const uint8_t *record, size_t record_len, size_t number, uint64_t *answer, size_t answer_len);
 
 /* Several drums on one supply: what each gets in a beat. wishes has the strokes that each drum wants, up to 255, for 1 to 8 drums; the supply
  * allows so many strokes, at least one for each drum. Each drum first gets the smaller of its wish and its part of what is allowed, rounded

@@ -1,10 +1,12 @@
 /* The promises of drum.h at their edges: buffers of exact size between bytes that must stay, answers that are too short, bytes that are no
  * record. Built with sanitizers, so that a byte read or written outside is seen. */
+#define _DEFAULT_SOURCE /* mmap */
 #include "drum.h"
 
 #include <stdio.h>
 #include <stdlib.h>
 #include <string.h>
+#include <sys/mman.h>
 
 static int failed;
 
@@ -227,6 +229,149 @@ static void logs(void) {
     expect(paired(falling, 2, zero, DRUM_TIMES + 1, more, joined, answer) == DRUM_REFUSED && answer[1] == 64, "64 before 63");
 }
 
+/* Where a page ends behind which nothing may be read: the library's own code has no sanitizer in it. */
+static uint8_t *page_end(void) {
+    enum { PAGE = 4096 };
+    static uint8_t *end;
+    if (end) return end;
+    uint8_t *pages = mmap(NULL, 2 * PAGE, PROT_READ | PROT_WRITE, MAP_PRIVATE | MAP_ANONYMOUS, -1, 0);
+    if (pages == MAP_FAILED || mprotect(pages + PAGE, PAGE, PROT_NONE)) exit(2);
+    return end = pages + PAGE;
+}
+
+static uint32_t panel_name(const uint8_t *record, size_t n, uint64_t *answer, size_t answer_len) {
+    uint8_t *lent = page_end() - n;
+    memcpy(lent, record, n);
+    return drum_panel_name(lent, n, answer, answer_len);
+}
+
+static uint32_t panel_step(const uint8_t *record, size_t n, size_t number, uint64_t *answer, size_t answer_len) {
+    uint8_t *lent = page_end() - n;
+    memcpy(lent, record, n);
+    return drum_panel_step(lent, n, number, answer, answer_len);
+}
+
+/* A record of kinds that this library does not know, but for the first and for the texts: a name, six items, the steps and a ninth item. The
+ * second step has a third part. What a panel passes over is no items and no UTF-8. */
+static const uint8_t later[] = {
+    107, 0, 0, 0, 16, 0,
+    1, 0, 0, 0, 3, 0, 'n',
+    2, 0, 0, 0, 9, 9, 0xff, 0xff, 0, 0, 0, 0, 9, 9, 0, 0, 0, 0, 9, 9, 0, 0, 0, 0, 9, 9, 0, 0, 0, 0, 9, 9, 0, 0, 0, 0, 9, 9,
+    49, 0, 0, 0, 9, 9,
+    14, 0, 0, 0, 9, 9, 1, 0, 0, 0, 3, 0, 'a', 1, 0, 0, 0, 3, 0, 'b',
+    23, 0, 0, 0, 9, 9, 0, 0, 0, 0, 3, 0, 4, 0, 0, 0, 3, 0, 0xf0, 0x9f, 0x94, 0x94, 1, 0, 0, 0, 9, 9, 0xff,
+    1, 0, 0, 0, 9, 9, 0xff};
+
+/* What a panel is told of it; the seven is kept behind the five numbers of an answer. */
+static const uint64_t later_name[DRUM_ANSWER + 1] = {DRUM_ACCEPTED, 6, 13, 2, 0, 7};
+static const uint64_t later_steps[2][DRUM_ANSWER + 1] = {{DRUM_ACCEPTED, 63, 70, 70, 77, 7}, {DRUM_ACCEPTED, 83, 89, 89, 99, 7}};
+
+static int is_same(const uint64_t *answer, const uint64_t *whole) { return !memcmp(answer, whole, DRUM_ANSWER * sizeof *whole); }
+
+static int is_shown(const uint8_t *record, size_t n) {
+    uint64_t answer[DRUM_ANSWER];
+    if (panel_name(record, n, answer, DRUM_ANSWER) != DRUM_ACCEPTED || !is_same(answer, later_name)) return 0;
+    for (size_t i = 0; i < 2; i++)
+        if (panel_step(record, n, i + 1, answer, DRUM_ANSWER) != DRUM_ACCEPTED || !is_same(answer, later_steps[i])) return 0;
+    return 1;
+}
+
+/* Refused with 55, whatever is asked for. */
+static int is_not_shown(const uint8_t *record, size_t n) {
+    static const uint64_t refused[DRUM_ANSWER] = {DRUM_REFUSED, 55};
+    static const size_t numbers[] = {0, 1, 2, 3, SIZE_MAX};
+    uint64_t answer[DRUM_ANSWER];
+    if (panel_name(record, n, answer, DRUM_ANSWER) != DRUM_REFUSED || !is_same(answer, refused)) return 0;
+    for (size_t i = 0; i < sizeof numbers / sizeof *numbers; i++)
+        if (panel_step(record, n, numbers[i], answer, DRUM_ANSWER) != DRUM_REFUSED || !is_same(answer, refused)) return 0;
+    return 1;
+}
+
+/* What may be otherwise, byte by byte, and what may not. */
+static void panels(void) {
+    static const struct { size_t at; uint8_t byte; const char *what; } kept[] = {
+        {17, 3, "a text that is passed over"}, {17, 16, "another kind beside the name"}, {55, 18, "another kind of list"},
+        {61, 19, "another kind of step"}, {103, 3, "another kind in a step"}, {110, 5, "another kind behind the steps"}};
+    static const struct { size_t at; uint8_t byte; const char *what; } broken[] = {
+        {4, 17, "another kind outside"}, {5, 1, "another kind outside, in its higher byte"}, {0, 106, "a byte behind the record"},
+        {0, 108, "a byte too few"}, {10, 4, "a name of another kind"}, {12, 0xff, "a name that is not UTF-8"}, {13, 14, "seven items"},
+        {13, 3, "items that do not fill the record"}, {51, 48, "a list of steps cut short"}, {63, 8, "a step of one item"},
+        {67, 2, "a step's name of another kind"}, {69, 0xff, "a step's name that is not UTF-8"}, {74, 0, "an id of another kind"},
+        {76, 0xff, "an id that is not UTF-8"}, {95, 0xff, "an id that is not UTF-8, in the last step"}, {99, 0, "a step that is not filled"}};
+    uint8_t record[sizeof later + 1] = {0};
+    memcpy(record, later, sizeof later);
+    expect(is_shown(later, sizeof later), "a panel shows what it does not know");
+    for (size_t i = 0; i < sizeof kept / sizeof *kept; i++) {
+        record[kept[i].at] = kept[i].byte;
+        expect(is_shown(record, sizeof later), kept[i].what);
+        record[kept[i].at] = later[kept[i].at];
+    }
+    for (size_t i = 0; i < sizeof broken / sizeof *broken; i++) {
+        record[broken[i].at] = broken[i].byte;
+        expect(is_not_shown(record, sizeof later), broken[i].what);
+        record[broken[i].at] = later[broken[i].at];
+    }
+    for (size_t n = 0; n < sizeof later; n++) expect(is_not_shown(later, n), "a record cut short");
+    expect(is_not_shown(record, sizeof record), "a record and a byte");
+}
+
+static void panel_numbers(void) {
+    static const uint64_t refused[DRUM_ANSWER] = {DRUM_REFUSED, 53};
+    static const size_t numbers[] = {0, 3, SIZE_MAX};
+    uint64_t answer[DRUM_ANSWER];
+    for (size_t i = 0; i < sizeof numbers / sizeof *numbers; i++)
+        expect(panel_step(later, sizeof later, numbers[i], answer, DRUM_ANSWER) == DRUM_REFUSED && is_same(answer, refused), "53 on a panel");
+}
+
+/* As many numbers as there are places, from none to one more than there are numbers. */
+static void panel_answers(void) {
+    static const uint64_t refused[DRUM_ANSWER + 1] = {DRUM_REFUSED, 55, 0, 0, 0, 7};
+    for (size_t places = 0; places <= DRUM_ANSWER + 1; places++) {
+        uint64_t name[] = {7, 7, 7, 7, 7, 7}, step[] = {7, 7, 7, 7, 7, 7}, none[] = {7, 7, 7, 7, 7, 7}, no_step[] = {7, 7, 7, 7, 7, 7};
+        expect(panel_name(later, sizeof later, name, places) == DRUM_ACCEPTED, "the name's result");
+        expect(panel_step(later, sizeof later, 2, step, places) == DRUM_ACCEPTED, "the step's result");
+        expect(panel_name(later, 0, none, places) == DRUM_REFUSED, "no record's result");
+        expect(panel_step(later, 0, 0, no_step, places) == DRUM_REFUSED, "no record's result for a step");
+        for (size_t i = 0; i <= DRUM_ANSWER; i++) {
+            expect(name[i] == (i < places ? later_name[i] : 7) && step[i] == (i < places ? later_steps[1][i] : 7), "a short answer of a panel");
+            expect(none[i] == (i < places ? refused[i] : 7) && no_step[i] == none[i], "a short refusal of a panel");
+        }
+    }
+}
+
+/* What the check accepts is shown as the lookups find it. Each byte of a record is changed in turn. */
+static void panels_and_lookups(void) {
+    static uint8_t work[1000], record[1000];
+    uint32_t lines[10];
+    uint64_t answer[DRUM_ANSWER], shown[DRUM_ANSWER];
+    drum_read_scenario((const uint8_t *)noon, sizeof noon - 1, work, sizeof work, record, sizeof record, lines, 10, answer, DRUM_ANSWER);
+    size_t n = answer[2];
+    drum_field(record, n, 1, answer, DRUM_ANSWER);
+    expect(panel_name(record, n, shown, DRUM_ANSWER) == DRUM_ACCEPTED && shown[1] == answer[1] && shown[2] == answer[2] && shown[3] == 2,
+           "a panel's name is the field's");
+    drum_step_by_id(record, n, (const uint8_t *)"hour", 4, answer, DRUM_ANSWER);
+    expect(panel_step(record, n, 1, shown, DRUM_ANSWER) == DRUM_ACCEPTED && shown[1] == answer[1] + 6 && shown[2] == shown[3]
+               && shown[4] - shown[3] == 10 && !memcmp(record + shown[3] + 6, "hour", 4), "a panel's step is the lookup's");
+    for (size_t i = 0; i < n; i++) {
+        record[i] ^= 1;
+        uint32_t check = drum_check_record(record, n, answer, DRUM_ANSWER), result = panel_name(record, n, shown, DRUM_ANSWER);
+        expect(check != DRUM_ACCEPTED || (result == DRUM_ACCEPTED && shown[3] == answer[1]), "a panel shows what the check accepts");
+        expect(result == DRUM_ACCEPTED || is_not_shown(record, n), "a damaged record on a panel");
+        record[i] ^= 1;
+    }
+}
+
+/* More bytes than the check accepts: the item behind the name has 1,048,576. */
+static void large_panel(void) {
+    static const uint8_t begin[] = {0x31, 0, 0x10, 0, 16, 0, 1, 0, 0, 0, 3, 0, 'n', 0, 0, 0x10, 0, 0, 0};
+    static uint8_t record[DRUM_RECORD_MAX + 55];
+    uint64_t answer[DRUM_ANSWER];
+    memcpy(record, begin, sizeof begin);
+    expect(drum_panel_name(record, sizeof record, answer, DRUM_ANSWER) == DRUM_ACCEPTED && answer[2] == 13 && answer[3] == 0, "a large record");
+    expect(drum_panel_step(record, sizeof record, 1, answer, DRUM_ANSWER) == DRUM_REFUSED && answer[1] == 53, "53 in a large record");
+    expect(drum_check_record(record, sizeof record, answer, DRUM_ANSWER) == DRUM_REFUSED && answer[1] == 40, "40 for a large record");
+}
+
 int main(void) {
     exact();
     short_answers();
@@ -236,6 +381,11 @@ int main(void) {
     most_steps();
     shares();
     logs();
+    panels();
+    panel_numbers();
+    panel_answers();
+    panels_and_lookups();
+    large_panel();
     if (!failed) printf("ok edges\n");
     return failed;
 }

@@ -64,6 +64,16 @@ static void *times(void *unused) {
     return unused;
 }
 
+static void *panel_name(void *unused) {
+    drum_panel_name(record, record_len, answer, DRUM_ANSWER);
+    return unused;
+}
+
+static void *panel_step(void *unused) {
+    drum_panel_step(record, record_len, 1, answer, DRUM_ANSWER);
+    return unused;
+}
+
 static void *share(void *unused) {
     static const uint32_t wishes[DRUM_DRUMS] = {0, 36, 72, 108, 144, 180, 216, 252};
     static uint32_t strokes[DRUM_DRUMS];
@@ -216,6 +226,8 @@ int main(void) {
         measure(texts[i].name, "drum_step_by_id", step_by_id);
         measure(texts[i].name, "drum_value_by_key", value_by_key);
         measure(texts[i].name, "drum_times", times);
+        measure(texts[i].name, "drum_panel_name", panel_name);
+        measure(texts[i].name, "drum_panel_step", panel_step);
     }
     measure("eight drums", "drum_share", share);
     measure("two logs of 4,096 times", "drum_pair_logs", pair_logs);

@@ -5,6 +5,7 @@
 
 use std::error::Error;
 use std::fmt;
+use std::ops::Range;
 
 mod item;
 mod raw;
@@ -64,6 +65,20 @@ pub struct Read {
 pub struct Programme {
     pub record: Vec<u8>,
     pub lines: Vec<u32>,
+}
+
+/// What a panel shows of a programme.
+#[derive(Clone, Copy, Debug, PartialEq, Eq)]
+pub struct PanelName<'a> {
+    pub name: &'a str,
+    pub steps: usize,
+}
+
+/// What a panel shows of a step. Both are empty if there are none.
+#[derive(Clone, Copy, Debug, PartialEq, Eq)]
+pub struct PanelStep<'a> {
+    pub name: &'a str,
+    pub id: &'a str,
 }
 
 /// How many pairs two logs have, and how many of each are alone.
@@ -156,6 +171,20 @@ pub fn times(record: &[u8], number: usize) -> Result<u32, Refusal> {
     Ok(numbers(told)?[0] as u32)
 }
 
+/// The programme's name and how many steps there are, as a panel shows them; a record may have kinds that are not known here.
+pub fn panel_name(record: &[u8]) -> Result<PanelName<'_>, Refusal> {
+    let told = ask(|answer, places| unsafe { raw::drum_panel_name(record.as_ptr(), record.len(), answer, places) });
+    let [start, end, steps, _] = numbers(told)?;
+    Ok(PanelName { name: label(record, start..end)?, steps })
+}
+
+/// The name and the id of the step with this number, from 1 on, as a panel shows them.
+pub fn panel_step(record: &[u8], number: usize) -> Result<PanelStep<'_>, Refusal> {
+    let told = ask(|answer, places| unsafe { raw::drum_panel_step(record.as_ptr(), record.len(), number, answer, places) });
+    let [name_start, name_end, id_start, id_end] = numbers(told)?;
+    Ok(PanelStep { name: label(record, name_start..name_end)?, id: label(record, id_start..id_end)? })
+}
+
 /// What each of up to eight drums on one supply gets in a beat, by what each wishes, up to 255, and what the supply allows; 0 for a drum that
 /// is not there.
 pub fn share(wishes: &[u32], allowed: u32) -> Result<[u32; DRUMS], Refusal> {
@@ -183,6 +212,7 @@ pub fn pair_logs(
 }
 
 const OUT_OF_RANGE: Refusal = Refusal { number: 53, line: 0, step: 0 };
+const NOT_FOR_PANEL: Refusal = Refusal { number: 55, line: 0, step: 0 };
 
 type Told = Result<Option<[usize; raw::ANSWER - 1]>, Refusal>;
 
@@ -193,7 +223,16 @@ fn numbers(told: Told) -> Result<[usize; raw::ANSWER - 1], Refusal> {
 
 fn found(record: &[u8], told: Told) -> Result<Option<Item<'_>>, Refusal> {
     let Some([start, end, ..]) = told? else { return Ok(None) };
-    Ok(record.get(start..end).and_then(|part| Items::of(part).next()))
+    Ok(item_at(record, start..end))
+}
+
+fn item_at(record: &[u8], place: Range<usize>) -> Option<Item<'_>> {
+    Items::of(record.get(place)?).next()
+}
+
+/// A text that a panel shows.
+fn label(record: &[u8], place: Range<usize>) -> Result<&str, Refusal> {
+    item_at(record, place).and_then(Item::text).ok_or(NOT_FOR_PANEL)
 }
 
 /// A list of command names as an item: a sequence of strings.

@@ -28,6 +28,8 @@ extern "C" {
         record: *const u8, record_len: usize, number: usize, key: *const u8, key_len: usize, answer: *mut u64, answer_len: usize,
     ) -> u32;
     pub fn drum_times(record: *const u8, record_len: usize, number: usize, answer: *mut u64, answer_len: usize) -> u32;
+    pub fn drum_panel_name(record: *const u8, record_len: usize, answer: *mut u64, answer_len: usize) -> u32;
+    pub fn drum_panel_step(record: *const u8, record_len: usize, number: usize, answer: *mut u64, answer_len: usize) -> u32;
     pub fn drum_share(
         wishes: *const u32, wishes_len: usize, allowed: u32, strokes: *mut u32, answer: *mut u64, answer_len: usize,
     ) -> u32;

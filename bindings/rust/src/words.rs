@@ -47,6 +47,7 @@ pub fn words(number: u32) -> &'static str {
         51 => "there are more steps than places for lines",
         52 => "the record is too long",
         53 => "a step or a field is asked for that the record does not have",
+        55 => "the bytes are no programme that a panel can show",
         61 => "there is no drum on the supply, there are more than 8, or one wishes for more than 255 strokes",
         62 => "the supply allows fewer strokes than there are drums",
         63 => "a time in a log is below the one before it",

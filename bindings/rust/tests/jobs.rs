@@ -1,6 +1,6 @@
 //! Each safe function once or more, on `examples/`.
 
-use drum::{Paired, Programme, Record, Refusal, Value};
+use drum::{Paired, PanelName, PanelStep, Programme, Record, Refusal, Value};
 
 const NOON: &[u8] = include_bytes!("../../../examples/noon.yaml");
 const ROUNDS: &[u8] = include_bytes!("../../../examples/rounds.yaml");
@@ -113,6 +113,94 @@ fn zeros_in_front() {
     assert!(matches!(value("01"), Ok(Some(Value::String("01")))));
     assert!(matches!(value("+1"), Ok(Some(Value::Integer(0)))));
     assert!(matches!(value("001"), Ok(None)));
+}
+
+#[test]
+fn panels_show_known_records() {
+    for text in [NOON, ROUNDS, KINDS] {
+        let programme = read(text);
+        let record = Record::new(&programme.record).expect("a record");
+        assert_eq!(drum::panel_name(record.bytes()), Ok(PanelName { name: record.name(), steps: record.len() }));
+        for (number, step) in (1..).zip(record.steps()) {
+            assert_eq!(drum::panel_step(record.bytes(), number), Ok(PanelStep { name: step.name, id: step.id }));
+        }
+        for number in [0, record.len() + 1, usize::MAX] {
+            assert_eq!(drum::panel_step(record.bytes(), number), Err(refusal(53, 0, 0)));
+        }
+    }
+    let programme = read(NOON);
+    assert_eq!(drum::panel_step(&programme.record, 1), Ok(PanelStep { name: "", id: "quarters" }));
+    assert_eq!(drum::panel_step(&programme.record, 3), Ok(PanelStep { name: "the hour", id: "hour" }));
+}
+
+/// A kind that is not known here.
+const LATER: u16 = 0xffff;
+
+fn item(kind: u16, content: &[u8]) -> Vec<u8> {
+    [&(content.len() as u32).to_le_bytes()[..], &kind.to_le_bytes(), content].concat()
+}
+
+fn text(content: &[u8]) -> Vec<u8> {
+    item(3, content)
+}
+
+/// Six items of which a panel knows nothing stand between the name and the steps.
+fn record(name: &[u8], steps: &[u8]) -> Vec<u8> {
+    item(16, &[name, &item(LATER, b"\xff").repeat(6), steps].concat())
+}
+
+fn with_step(step: &[u8]) -> Vec<u8> {
+    record(&text(b"n"), &item(18, &[item(19, &[text(b"a"), text(b"b")].concat()), step.to_vec()].concat()))
+}
+
+#[test]
+fn panels_show_unknown_kinds() {
+    let parts = [text("\u{1f514}".as_bytes()), text(b""), item(LATER, b"no item"), item(16, b"\xff")].concat();
+    let later = with_step(&item(LATER, &parts));
+    assert_eq!(drum::check_record(&later), Err(refusal(40, 0, 0)));
+    assert_eq!(drum::panel_name(&later), Ok(PanelName { name: "n", steps: 2 }));
+    assert_eq!(drum::panel_step(&later, 1), Ok(PanelStep { name: "a", id: "b" }));
+    assert_eq!(drum::panel_step(&later, 2), Ok(PanelStep { name: "\u{1f514}", id: "" }));
+    assert_eq!(drum::panel_step(&later, 3), Err(refusal(53, 0, 0)));
+
+    let empty = record(&text(b""), &item(LATER, b""));
+    assert_eq!(drum::panel_name(&empty), Ok(PanelName { name: "", steps: 0 }));
+    assert_eq!(drum::panel_step(&empty, 1), Err(refusal(53, 0, 0)));
+    let ninth = item(16, &[&empty[6..], &item(LATER, b"\xff")].concat());
+    assert_eq!(drum::panel_name(&ninth), Ok(PanelName { name: "", steps: 0 }));
+    let large = item(16, &[&empty[6..], &item(LATER, &vec![0xff; drum::RECORD_MAX])].concat());
+    assert_eq!(drum::panel_name(&large), Ok(PanelName { name: "", steps: 0 }));
+}
+
+#[test]
+fn panels_refuse() {
+    let whole = record(&text(b"n"), &item(18, b""));
+    let labels = [text(b"a"), text(b"b")].concat();
+    let bad = [
+        vec![],
+        whole[..whole.len() - 1].to_vec(),
+        [&whole[..], b"\0"].concat(),
+        item(17, &whole[6..]),
+        item(16, &whole[6..whole.len() - 6]),
+        item(16, &[&whole[6..], b"\0"].concat()),
+        record(&text(b"\xff"), &item(18, b"")),
+        record(&item(LATER, b"n"), &item(18, b"")),
+        record(&text(b"n"), &item(18, b"\0")),
+        with_step(&item(19, b"")),
+        with_step(&item(19, &text(b"a"))),
+        with_step(&item(19, &[&labels[..], b"\0"].concat())),
+        with_step(&item(19, &[item(LATER, b"a"), text(b"b")].concat())),
+        with_step(&item(19, &[text(b"a"), item(0, b"")].concat())),
+        with_step(&item(19, &[text(b"\xc0\x80"), text(b"b")].concat())),
+        with_step(&item(19, &[text(b"a"), text(b"\xed\xa0\x80")].concat())),
+    ];
+    for record in bad {
+        assert_eq!(drum::panel_name(&record), Err(refusal(55, 0, 0)), "{record:?}");
+        for number in [0, 1, 3, usize::MAX] {
+            assert_eq!(drum::panel_step(&record, number), Err(refusal(55, 0, 0)), "{record:?}");
+        }
+    }
+    assert_eq!(drum::panel_name(b"").unwrap_err().to_string(), "55 the bytes are no programme that a panel can show");
 }
 
 #[test]
