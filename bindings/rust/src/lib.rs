@@ -74,7 +74,7 @@ pub struct PanelName<'a> {
     pub steps: usize,
 }
 
-/// What a panel shows of a step. Both are empty if there are none.
+/// What a panel shows of a step. Either is empty if there is none.
 #[derive(Clone, Copy, Debug, PartialEq, Eq)]
 pub struct PanelStep<'a> {
     pub name: &'a str,
