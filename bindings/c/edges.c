@@ -1,5 +1,6 @@
-/* The promises of drum.h at their edges: buffers of exact size between bytes that must stay, answers that are too short, bytes that are no
- * record. Built with sanitizers, so that a byte read or written outside is seen. */
+/* The promises of drum.h at their edges: buffers of exact size, answers that are too short, bytes that are no record. Sanitizers see what
+ * this file does, and not into the library; so behind what it writes stand bytes that must stay, and a text or a panel's record ends where
+ * nothing more may be read. */
 #define _DEFAULT_SOURCE /* mmap */
 #include "drum.h"
 
@@ -24,12 +25,24 @@ static int zeros(const uint8_t *bytes, size_t n) {
     return 1;
 }
 
-/* Lends exactly so much, from the heap, so that the sanitizer sees every byte beyond. */
+/* Where a page ends behind which nothing may be read. */
+static uint8_t *page_end(void) {
+    enum { PAGE = 4096 };
+    static uint8_t *end;
+    if (end) return end;
+    uint8_t *pages = mmap(NULL, 2 * PAGE, PROT_READ | PROT_WRITE, MAP_PRIVATE | MAP_ANONYMOUS, -1, 0);
+    if (pages == MAP_FAILED || mprotect(pages + PAGE, PAGE, PROT_NONE)) exit(2);
+    return end = pages + PAGE;
+}
+
+/* A copy of bytes that ends there, until the next. */
+static uint8_t *at_page_end(const void *bytes, size_t n) { return memcpy(page_end() - n, bytes, n); }
+
+/* Lends so much, and has an element behind each output. */
 static uint32_t read_with(size_t work_len, size_t record_len, size_t lines_len, uint64_t *answer, size_t answer_len) {
-    uint8_t *text = malloc(sizeof noon - 1), *work = malloc(work_len + 1), *record = malloc(record_len + 1);
+    uint8_t *text = at_page_end(noon, sizeof noon - 1), *work = malloc(work_len + 1), *record = malloc(record_len + 1);
     uint32_t *lines = malloc((lines_len + 1) * sizeof *lines);
-    if (!text || !work || !record || !lines) exit(2);
-    memcpy(text, noon, sizeof noon - 1);
+    if (!work || !record || !lines) exit(2);
     memset(work, 7, work_len + 1);
     memset(record, 7, record_len + 1);
     memset(lines, 7, (lines_len + 1) * sizeof *lines);
@@ -39,7 +52,6 @@ static uint32_t read_with(size_t work_len, size_t record_len, size_t lines_len, 
         expect(zeros(work, work_len) && zeros(record, record_len), "a refusal leaves zeros");
         for (size_t i = 0; i < lines_len; i++) expect(lines[i] == 0, "a refusal leaves zeros in the lines");
     }
-    free(text);
     free(work);
     free(record);
     free(lines);
@@ -229,26 +241,12 @@ static void logs(void) {
     expect(paired(falling, 2, zero, DRUM_TIMES + 1, more, joined, answer) == DRUM_REFUSED && answer[1] == 64, "64 before 63");
 }
 
-/* Where a page ends behind which nothing may be read: the library's own code has no sanitizer in it. */
-static uint8_t *page_end(void) {
-    enum { PAGE = 4096 };
-    static uint8_t *end;
-    if (end) return end;
-    uint8_t *pages = mmap(NULL, 2 * PAGE, PROT_READ | PROT_WRITE, MAP_PRIVATE | MAP_ANONYMOUS, -1, 0);
-    if (pages == MAP_FAILED || mprotect(pages + PAGE, PAGE, PROT_NONE)) exit(2);
-    return end = pages + PAGE;
-}
-
 static uint32_t panel_name(const uint8_t *record, size_t n, uint64_t *answer, size_t answer_len) {
-    uint8_t *lent = page_end() - n;
-    memcpy(lent, record, n);
-    return drum_panel_name(lent, n, answer, answer_len);
+    return drum_panel_name(at_page_end(record, n), n, answer, answer_len);
 }
 
 static uint32_t panel_step(const uint8_t *record, size_t n, size_t number, uint64_t *answer, size_t answer_len) {
-    uint8_t *lent = page_end() - n;
-    memcpy(lent, record, n);
-    return drum_panel_step(lent, n, number, answer, answer_len);
+    return drum_panel_step(at_page_end(record, n), n, number, answer, answer_len);
 }
 
 /* A record of kinds that this library does not know, but for the first and for the texts: a name, six items, the steps and a ninth item. The
