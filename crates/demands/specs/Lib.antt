@@ -1,3 +1,4 @@
 pub mod Demands
 pub mod Records
 pub mod Contract
+pub mod Panels

@@ -15,8 +15,10 @@ ghost use Rattle.demands.specs.Records.{RecordEnds};
 ghost use Rattle.demands.specs.Contract.{RecordRead, LooksUp, Parts};
 ghost use Rattle.demands.specs.Demands.{TreeEnds, TellsRefusal, Compares, lacks, is_good, out_of_range};
 ghost use Rattle.demands.specs.Demands.{ItemShown, step_items, TextItem};
+ghost use Rattle.demands.specs.Panels.{NamedAlike, LabelledAlike};
 
 use item::{HEADER, same_bytes};
+use panel::{PanelName, PanelStep, panel_name, panel_step};
 use record::{FIELDS, Lookup, RecordAnswer, check_record, field, part, step};
 use refusal::{Refusal, Told};
 use scenario::{ScenarioAnswer, read_scenario};
@@ -315,4 +317,21 @@ pub fn lookups_fill(record: &[u8]) -> bool
         return false;
     };
     fill(record, field, FIELDS, HEADER) && fill(record, step, steps, start + HEADER)
+}
+
+/// What the sequencer's check and the panel say of the same bytes: what the check accepts the panel accepts, with the name where the lookup by
+/// place has it, and as many steps.
+#[tactic(auto, using(crate::proofs::Panels::named_alike))]
+pub fn check_and_panel(record: &[u8]) -> (RecordAnswer, PanelName)
+    ensures { NamedAlike «record».now result.0 result.1 }
+{
+    (check_record(record), panel_name(record))
+}
+
+/// What the sequencer's lookup and the panel say of the step with a number: the panel has the name and the id that stand in what is found.
+#[tactic(auto, using(crate::proofs::Panels::labelled_alike))]
+pub fn step_and_panel(record: &[u8], number: usize) -> (Lookup, PanelStep)
+    ensures { LabelledAlike «record».now number result.0 result.1 }
+{
+    (step(record, number), panel_step(record, number))
 }

@@ -8,41 +8,58 @@ use Rattle.item.proofs.Exact.{bytes_of}
 use Rattle.panel.specs.Panel.{programme, numbered, Programme}
 use Rattle.panel.specs.Jobs.{given, start_of, panel_name, panel_step}
 use Rattle.panel.specs.Programmes.{AnyStep, AnyProgramme, written, step_item, IsProgramme, NameShown, StepShown, ShowsName, ShowsStep}
-use Rattle.panel.proofs.Placed.{list_start, steps-stand, programme-is, name-bytes, labels, labels-many, labels-nth, step-stands, labels-stand, text-bytes}
+use Rattle.panel.proofs.Placed.{list_start, steps-stand, programme-is, name-bytes, labels, LabelsStand, labels-many, labels-nth, step-stands, labels-stand, text-bytes}
 use Rattle.panel.proofs.Made.{programme-made}
 
-module _ (b : List ℕ) where
-  name-shown : (p : AnyProgramme) → IsProgramme b p → NameShown b p (panel_name b)
+module _ (b : List ℕ) (p : AnyProgramme) (w : IsProgramme b p) where
+  pub name-is : panel_name b ≡ good (6, 6 + 6 + length p.name, length p.steps)
   unfolding panel_name given start_of ◌>>=◌
-  name-shown p w = record {
-    start = 6;
-    end = 12 + length p.name;
-    is = rw (programme-is b p w, labels-many p.steps (list_start b p w + 6)) refl;
-    name = name-bytes b p w;
-  }
+  name-is = rw (programme-is b p w, labels-many p.steps (list_start b p w + 6)) refl
+
+  name-shown : NameShown b p (panel_name b)
+  name-shown = record { start = 6; end = 6 + 6 + length p.name; is = name-is; name = name-bytes b p w }
 
   -- where the step that so many stand before begins
-  pub step_start : (p : AnyProgramme) → IsProgramme b p → ℕ → ℕ
-  step_start p w i = list_start b p w + 6 + length (written (map step_item (take i p.steps)))
+  abbrev pub step_start : ℕ → ℕ
+  step_start i = list_start b p w + 6 + length (written (map step_item (take i p.steps)))
 
-  step-shown : (p : AnyProgramme) → IsProgramme b p → (number : ℕ) → MatchOption (numbered p.steps number) (panel_step b number ≡ refused 53 0 0) (λ s. StepShown b s (panel_step b number))
-  unfolding panel_step given start_of numbered labels step_start ◌>>=◌
-  step-shown p w zero = rw (programme-is b p w) refl
-  step-shown p w (suc i) = go (slice_get p.steps i) refl
+  module _ (i : ℕ) where
+    pub step-is : {s : AnyStep} → slice_get p.steps i ≡ Some s
+        → panel_step b (suc i) ≡ good (step_start i + 6, step_start i + 6 + 6 + length s.name, step_start i + 6 + 6 + length s.name, step_start i + 6 + 6 + length s.name + 6 + length s.id)
+    unfolding panel_step given start_of numbered labels ◌>>=◌
+    step-is {s} e =
+        let n : step_start i + 6 + 6 - 6 ≡ step_start i + 6 = omega arith in
+        let d : step_start i + 6 + 6 + length s.name + 6 - 6 ≡ step_start i + 6 + 6 + length s.name = omega arith in
+        rw (programme-is b p w, labels-nth p.steps (list_start b p w + 6) i, e, n, d) refl
+
+    pub step-none : slice_get p.steps i ≡ None → panel_step b (suc i) ≡ refused 53 0 0
+    unfolding panel_step given numbered ◌>>=◌
+    step-none e = rw (programme-is b p w, labels-nth p.steps (list_start b p w + 6) i, e) refl
+
+    pub step-labels-stand : {s : AnyStep} → slice_get p.steps i ≡ Some s → LabelsStand b (step_start i) s
+    step-labels-stand {s} e =
+        labels-stand b s (step_start i) (written (map step_item (drop (suc i) p.steps)) ++ written p.more) (step-stands b p.steps (list_start b p w + 6) i (written p.more) e (steps-stand b p w))
+
+  pub step-zero : panel_step b 0 ≡ refused 53 0 0
+  unfolding panel_step given numbered ◌>>=◌
+  step-zero = rw (programme-is b p w) refl
+
+  step-shown : (number : ℕ) → MatchOption (numbered p.steps number) (panel_step b number ≡ refused 53 0 0) (λ s. StepShown b s (panel_step b number))
+  unfolding numbered
+  step-shown zero = step-zero
+  step-shown (suc i) = go (slice_get p.steps i) refl
     where
       go : (o : Option AnyStep) → slice_get p.steps i ≡ o → MatchOption o (panel_step b (suc i) ≡ refused 53 0 0) (λ s. StepShown b s (panel_step b (suc i)))
-      go None e = rw (programme-is b p w, labels-nth p.steps (list_start b p w + 6) i, e) refl
+      go None e = step-none i e
       go (Some s) e =
-          let at = step_start p w i in
-          let there = labels-stand b s at (written (map step_item (drop (suc i) p.steps)) ++ written p.more) (step-stands b p.steps (list_start b p w + 6) i (written p.more) e (steps-stand b p w)) in
-          let n : at + 6 + 6 - 6 ≡ at + 6 = omega arith in
-          let d : at + 6 + 6 + length s.name + 6 - 6 ≡ at + 6 + 6 + length s.name = omega arith in
+          let at = step_start i in
+          let there = step-labels-stand i e in
           record {
             name_start = at + 6;
             name_end = at + 6 + 6 + length s.name;
             id_start = at + 6 + 6 + length s.name;
             id_end = at + 6 + 6 + length s.name + 6 + length s.id;
-            is = rw (programme-is b p w, labels-nth p.steps (list_start b p w + 6) i, e, n, d) refl;
+            is = step-is i e;
             name = text-bytes b (at + 6) s.name there.behind_name there.name;
             id = text-bytes b (at + 6 + 6 + length s.name) s.id there.behind_id there.id;
           }
