@@ -161,11 +161,15 @@ fn item(kind: u16, content: &[u8]) -> Vec<u8> {
     [&(content.len() as u32).to_le_bytes()[..], &kind.to_le_bytes(), content].concat()
 }
 
-/// A record of `setup` alone, by the layout of docs/RECORD.md.
-fn record_of(setup: &[u8]) -> Vec<u8> {
+/// A record of `setup` and `steps` alone, by the layout of docs/RECORD.md.
+fn record_with(setup: &[u8], steps: &[u8]) -> Vec<u8> {
     let defaults = item(17, &[item(0, b""), item(0, b"")].concat());
-    let fields = [item(3, b"n"), item(3, b""), item(4, b""), item(3, b""), setup.to_vec(), defaults, item(4, b""), item(18, b"")];
+    let fields = [item(3, b"n"), item(3, b""), item(4, b""), item(3, b""), setup.to_vec(), defaults, item(4, b""), item(18, steps)];
     item(16, &fields.concat())
+}
+
+fn record_of(setup: &[u8]) -> Vec<u8> {
+    record_with(setup, b"")
 }
 
 fn mapping(keys: impl Iterator<Item = String>) -> Vec<u8> {
@@ -186,6 +190,21 @@ fn records(part: usize) -> Vec<(&'static str, Vec<u8>)> {
         ("mappings of 3 entries", record_of(&item(4, &small.repeat(count)))),
         ("one mapping of 69,900 keys", record_of(&mapping((0..69_900 / part).map(short_key)))),
         ("one of 55,000 keys that share a word", record_of(&mapping(crowded().take(55_000 / part)))),
+    ]
+}
+
+/// One record of each kind for a panel, a `part`-th as long as a drum takes, and how many steps it has.
+fn shown(part: usize) -> Vec<(&'static str, (Vec<u8>, usize))> {
+    let room = ((1 << 20) - 100) / part;
+    let null = item(0, b"");
+    let labels = item(3, b"").repeat(2);
+    let short = item(19, &labels);
+    let many = room / short.len();
+    let one = |more: &[u8]| (record_with(&null, &item(19, &[&labels[..6], more].concat())), 1);
+    vec![
+        ("steps of two empty texts", (record_with(&null, &short.repeat(many)), many)),
+        ("one step of empty items", one(&[&labels[6..], &null.repeat(room / null.len())].concat())),
+        ("one step with a long id", one(&item(3, &vec![b'a'; room]))),
     ]
 }
 
@@ -315,6 +334,10 @@ fn main() {
     println!("\n| record | an eighth | a quarter | half | whole |\n|---|---|---|---|---|");
     for (name, parts) in each_kind(records) {
         grow(name, parts, |record| _ = black_box(drum::check_record(record).expect("a record")));
+    }
+    println!("\n| the last step of a record, on a panel | an eighth | a quarter | half | whole |\n|---|---|---|---|---|");
+    for (name, parts) in each_kind(shown) {
+        grow(name, parts, |(record, steps)| _ = black_box(drum::panel_step(record, *steps).expect("a step")));
     }
     println!("\n| wishes in a beat, nanoseconds | allowed | stroke by stroke | ours |\n|---|---|---|---|");
     beat("7 of 0, one of 255", &[0, 0, 0, 0, 0, 0, 0, 255], 250);
