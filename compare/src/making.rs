@@ -68,3 +68,50 @@ pub fn list() -> Node {
 pub fn map(keys: &[&str]) -> Node {
     Inner(5, keys.iter().flat_map(|key| [string(key), null()]).collect())
 }
+
+// ---- copies that are changed
+
+pub fn count(node: &Node) -> usize {
+    match node {
+        Leaf(..) => 1,
+        Inner(_, items) => 1 + items.iter().map(count).sum::<usize>(),
+    }
+}
+
+/// The items around the place of an item among all of them, and its place among these.
+pub fn change(node: &mut Node, place: usize, how: &mut dyn FnMut(&mut Vec<Node>, usize)) {
+    let Inner(_, items) = node else { return };
+    let mut left = place;
+    for at in 0..items.len() {
+        if left == 0 {
+            return how(items, at);
+        }
+        let size = count(&items[at]);
+        if left < size {
+            return change(&mut items[at], left - 1, how);
+        }
+        left -= size;
+    }
+}
+
+/// Each byte changed to several values, each length, bytes before and behind.
+pub fn damaged(bytes: &[u8]) -> Vec<Vec<u8>> {
+    let mut copies = Vec::new();
+    for at in 0..bytes.len() {
+        let byte = bytes[at];
+        for other in [0, 255, byte.wrapping_add(1), byte.wrapping_sub(1), byte ^ 128] {
+            if other != byte {
+                let mut copy = bytes.to_vec();
+                copy[at] = other;
+                copies.push(copy);
+            }
+        }
+        copies.push(bytes[..at].to_vec());
+    }
+    for more in [0, 1, 255] {
+        copies.push([bytes, &[more][..]].concat());
+        copies.push([&[more][..], bytes].concat());
+    }
+    copies.push([bytes, bytes].concat());
+    copies
+}

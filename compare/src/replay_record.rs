@@ -10,6 +10,8 @@ use std::io::{self, BufRead, Write};
 mod decide;
 #[path = "making.rs"]
 mod making;
+#[path = "panel.rs"]
+mod panel;
 #[path = "random.rs"]
 #[allow(dead_code)]
 mod random;
@@ -21,7 +23,8 @@ mod writing;
 
 use decide::{BUILT_IN_STEPS, LONGEST, STEP_FIELDS, items, record};
 use making::{
-    Inner, Leaf, NOT_UTF8, Node, list, map, node, null, one_step, scenario, string, written,
+    Inner, Leaf, NOT_UTF8, Node, change, count, damaged, list, map, node, null, one_step, scenario,
+    string, written,
 };
 use random::Random;
 use writing::write_text;
@@ -44,29 +47,6 @@ fn answer(bytes: &[u8]) -> String {
 }
 
 // ---- damaged copies
-
-fn count(node: &Node) -> usize {
-    match node {
-        Leaf(..) => 1,
-        Inner(_, items) => 1 + items.iter().map(count).sum::<usize>(),
-    }
-}
-
-/// The items around the place of an item among all of them, and its place among these.
-fn change(node: &mut Node, place: usize, how: &mut dyn FnMut(&mut Vec<Node>, usize)) {
-    let Inner(_, items) = node else { return };
-    let mut left = place;
-    for at in 0..items.len() {
-        if left == 0 {
-            return how(items, at);
-        }
-        let size = count(&items[at]);
-        if left < size {
-            return change(&mut items[at], left - 1, how);
-        }
-        left -= size;
-    }
-}
 
 /// One change to the items, so that all lengths fit.
 fn damage(items: &mut Vec<Node>, at: usize, random: &mut Random) {
@@ -177,7 +157,7 @@ struct Cases {
 impl Cases {
     fn take(&mut self, bytes: &[u8]) {
         write_text(&mut self.stream, bytes).unwrap();
-        writeln!(self.answers, "{}", answer(bytes)).unwrap();
+        writeln!(self.answers, "{}{}", answer(bytes), panel::told(bytes)).unwrap();
     }
 
     /// A record whose name is so long that the whole has this many bytes. The zeros of the name are
@@ -194,7 +174,7 @@ impl Cases {
         write_text(&mut self.stream, &bytes[..12]).unwrap();
         write_text(&mut self.stream, &bytes[12..]).unwrap();
         bytes.splice(12..12, vec![0; zeros]);
-        writeln!(self.answers, "{}", answer(&bytes)).unwrap();
+        writeln!(self.answers, "{}{}", answer(&bytes), panel::told(&bytes)).unwrap();
     }
 
     fn begin(&mut self, kind: &str) {
@@ -204,26 +184,6 @@ impl Cases {
     fn end(&mut self) {
         section::end(&mut self.stream).unwrap();
     }
-
-    /// Every byte changed to several values, every length, bytes before and behind.
-    fn small(&mut self, bytes: &[u8]) {
-        for at in 0..bytes.len() {
-            let byte = bytes[at];
-            for other in [0, 255, byte.wrapping_add(1), byte.wrapping_sub(1), byte ^ 128] {
-                if other != byte {
-                    let mut copy = bytes.to_vec();
-                    copy[at] = other;
-                    self.take(&copy);
-                }
-            }
-            self.take(&bytes[..at]);
-        }
-        for more in [0, 1, 255] {
-            self.take(&[bytes, &[more][..]].concat());
-            self.take(&[&[more][..], bytes].concat());
-        }
-        self.take(&[bytes, bytes].concat());
-    }
 }
 
 /// The cases that are always the same.
@@ -231,7 +191,9 @@ fn fixed(cases: &mut Cases) {
     cases.answers.extend(b"tr.strike....\n");
     cases.begin("parts");
     cases.begin("records");
-    cases.small(&written(&with_step("strike", map(&["a"]), null())));
+    for copy in damaged(&written(&with_step("strike", map(&["a"]), null()))) {
+        cases.take(&copy);
+    }
     let mut ends = Vec::new();
     nests(&mut ends);
     commands(&mut ends);

@@ -7,7 +7,9 @@ use std::io::{self, BufRead, Write};
 
 #[allow(dead_code)]
 mod decide;
+#[allow(dead_code)]
 mod making;
+mod panel;
 #[allow(dead_code)]
 mod random;
 mod section;
@@ -16,7 +18,8 @@ mod writing;
 
 use decide::{BUILT_IN_STEPS, STEP_FIELDS, check_steps, items, record};
 use making::{
-    Inner, Leaf, NOT_UTF8, Node, list, map, node, null, one_step, scenario, string, written,
+    Inner, Leaf, NOT_UTF8, Node, damaged, list, map, node, null, one_step, scenario, string,
+    written,
 };
 use random::Random;
 use writing::write_text;
@@ -68,7 +71,8 @@ impl Cases {
         text.extend(bytes);
         text.extend(names);
         write_text(&mut self.stream, &text).unwrap();
-        writeln!(self.answers, "{}", checked(bytes, lines, names)).unwrap();
+        let (check, panel) = (checked(bytes, lines, names), panel::told(bytes));
+        writeln!(self.answers, "{check}{panel}").unwrap();
     }
 
     fn look_up(&mut self, bytes: &[u8], sought: &[u8]) {
@@ -76,7 +80,7 @@ impl Cases {
         text.extend(bytes);
         text.extend(sought);
         write_text(&mut self.stream, &text).unwrap();
-        writeln!(self.answers, "{}", looked_up(bytes, sought)).unwrap();
+        writeln!(self.answers, "{}{}", looked_up(bytes, sought), panel::told(bytes)).unwrap();
     }
 
     fn begin(&mut self, kind: &str) {
@@ -121,28 +125,6 @@ fn flag() -> Node {
 /// A value of each kind but the mapping.
 fn no_mappings() -> [Node; 5] {
     [null(), flag(), int(3), string("steps"), Inner(4, vec![string("steps"), list()])]
-}
-
-/// Each byte changed to several values, each length, bytes before and behind.
-fn damaged(bytes: &[u8]) -> Vec<Vec<u8>> {
-    let mut copies = Vec::new();
-    for at in 0..bytes.len() {
-        let byte = bytes[at];
-        for other in [0, 255, byte.wrapping_add(1), byte.wrapping_sub(1), byte ^ 128] {
-            if other != byte {
-                let mut copy = bytes.to_vec();
-                copy[at] = other;
-                copies.push(copy);
-            }
-        }
-        copies.push(bytes[..at].to_vec());
-    }
-    for more in [0, 1, 255] {
-        copies.push([bytes, &[more][..]].concat());
-        copies.push([&[more][..], bytes].concat());
-    }
-    copies.push([bytes, bytes].concat());
-    copies
 }
 
 // ---- the check of steps

@@ -3,10 +3,10 @@
 use std::io::{self, Write};
 
 /// The kinds, by their numbers. `crates/replay/src/section.rt` says what each is.
-const KINDS: [&str; 18] = [
+const KINDS: [&str; 19] = [
     "items", "headers", "same", "lines", "values", "trees", "least_work", "scenarios",
     "scenario_trees", "scenario_sizes", "records", "long_record", "parts", "scenario_checks",
-    "record_checks", "lookups", "shares", "logs",
+    "record_checks", "lookups", "shares", "logs", "panels",
 ];
 
 pub fn begin(out: &mut impl Write, kind: &str, numbers: [u32; 3]) -> io::Result<()> {

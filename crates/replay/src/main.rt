@@ -5,6 +5,7 @@
 mod items;
 mod line_entries;
 mod logs;
+mod panels;
 mod print;
 mod records;
 mod scenarios;
@@ -62,6 +63,7 @@ fn answer(
         Question::Lookups => steps::print_lookups(out, text)?,
         Question::Shares => shares::print_shares(out, text)?,
         Question::Logs => logs::print_logs(out, text)?,
+        Question::Panel => panels::print_checked(out, text)?,
     }
     writeln!(out)
 }

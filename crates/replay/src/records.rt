@@ -1,16 +1,31 @@
 // What the check of a record and its lookups answer.
+use crate::panels::print_panel;
 use crate::stream::next_text;
 use console::Numbers;
 use record::{Lookup, RecordAnswer, part};
+use refusal::Refusal;
 use std::io;
 use std::io::{Read, Write};
 
-// Where the found part begins, and how long it is.
+// Where a part begins, and how long it is.
+pub(crate) fn print_part(
+    out: &mut impl Write,
+    bytes: &[u8],
+    start: usize,
+    end: usize,
+) -> io::Result<()> {
+    write!(out, " {start}+{}", part(bytes, start, end).len())
+}
+
+pub(crate) fn print_refused(out: &mut impl Write, e: Refusal) -> io::Result<()> {
+    write!(out, " !{}", e.told().number)
+}
+
 pub(crate) fn print_lookup(out: &mut impl Write, bytes: &[u8], found: Lookup) -> io::Result<()> {
     match found {
-        Lookup::Found { start, end } => write!(out, " {start}+{}", part(bytes, start, end).len()),
+        Lookup::Found { start, end } => print_part(out, bytes, start, end),
         Lookup::Nothing => write!(out, " none"),
-        Lookup::Refused(e) => write!(out, " !{}", e.told().number),
+        Lookup::Refused(e) => print_refused(out, e),
     }
 }
 
@@ -25,19 +40,29 @@ fn print_lookups(out: &mut impl Write, bytes: &[u8], steps: usize) -> io::Result
     Ok(())
 }
 
-pub(crate) fn print_record(out: &mut impl Write, bytes: &[u8]) -> io::Result<()> {
+// Gives how many steps there are, if it is a record.
+pub(crate) fn print_check(out: &mut impl Write, bytes: &[u8]) -> io::Result<Option<usize>> {
     match record::check_record(bytes) {
         RecordAnswer::Good { steps } => {
             write!(out, "good {steps}")?;
-            print_lookups(out, bytes, steps)
+            Ok(Some(steps))
         }
         RecordAnswer::Refused(e) => {
             write!(out, "refused {}", Numbers(e))?;
-            print_lookup(out, bytes, record::field(bytes, 1))?;
-            print_lookup(out, bytes, record::field(bytes, 9))?;
-            print_lookup(out, bytes, record::step(bytes, 0))
+            Ok(None)
         }
     }
+}
+
+pub(crate) fn print_record(out: &mut impl Write, bytes: &[u8]) -> io::Result<()> {
+    if let Some(steps) = print_check(out, bytes)? {
+        print_lookups(out, bytes, steps)?;
+    } else {
+        print_lookup(out, bytes, record::field(bytes, 1))?;
+        print_lookup(out, bytes, record::field(bytes, 9))?;
+        print_lookup(out, bytes, record::step(bytes, 0))?;
+    }
+    print_panel(out, bytes)
 }
 
 // A record with zeros in it, so that one at the limit need not be stored: a text at the front, and one from a place on.

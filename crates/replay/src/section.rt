@@ -39,18 +39,21 @@ pub(crate) enum Question {
     LeastWork,
     // The scenario of a text, and what is left in what is lent.
     Scenario { room: Room, shown: Shown },
-    // What the check of a record and its lookups answer.
+    // What the check of a record and its lookups answer, and what a panel shows of it.
     Record,
-    // The check of a record's steps. A text has the record's length and a count of lines in front, then the lines, the record and the names.
+    // The check of a record's steps, and what a panel shows of it. A text has the record's length and a count of lines in front, then the
+    // lines, the record and the names.
     RecordCheck,
-    // The lookups by id, by key and of `times`. A text has the record's length in front, then the record and what is looked for, as an id and
-    // as a key.
+    // The lookups by id, by key and of `times`, and what a panel shows. A text has the record's length in front, then the record and what is
+    // looked for, as an id and as a key.
     Lookups,
     // What drums on one supply get in a beat. A text has a count of wishes and what the supply allows in front, then the wishes.
     Shares,
     // A hammer log against a microphone log. A text has five numbers in front, how many hammers and sounds there are and the places of the
     // three lists, then the times of the hammers and of the sounds.
     Logs,
+    // What the check of a record answers, and what a panel shows of it.
+    Panel,
 }
 
 #[derive(Clone, Copy)]
@@ -58,8 +61,8 @@ pub(crate) enum Section {
     // Items at the ends of their ranges. It has no texts and no end.
     Items,
     Texts(Question),
-    // What the check of a record and its lookups answer, of one record that is mostly zeros. It has two texts and no end: one at the front
-    // and one from a place on. The record ends at `end`.
+    // What is asked of a record, of one that is mostly zeros. It has two texts and no end: one at the front and one from a place on. The
+    // record ends at `end`.
     LongRecord { from: usize, end: usize },
     // Parts that are in order and inside, and parts that are not. It has no texts and no end.
     Parts,
@@ -122,6 +125,7 @@ impl TryFrom<[u32; 4]> for Section {
             15 => Question::Lookups,
             16 => Question::Shares,
             17 => Question::Logs,
+            18 => Question::Panel,
             _ => return Err(io::Error::from(ErrorKind::InvalidData)),
         };
         Ok(Section::Texts(question))

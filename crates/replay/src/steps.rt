@@ -1,4 +1,5 @@
 // What the check of the steps answers, and the lookups by id, by key and of `times`.
+use crate::panels::print_panel;
 use crate::print::front;
 use crate::records::print_lookup;
 use crate::stream::{each_text, next_text, number_at, put_numbers};
@@ -90,8 +91,9 @@ pub(crate) fn print_record_check(out: &mut impl Write, text: &[u8]) -> io::Resul
     put_numbers(text, 8, lines);
     let start = 8 + 4 * lines.len();
     let end = start + number_at(text, 0) as usize;
-    let names = part(text, end, text.len());
-    print_steps(out, part(text, start, end), lines, names)
+    let bytes = part(text, start, end);
+    print_steps(out, bytes, lines, part(text, end, text.len()))?;
+    print_panel(out, bytes)
 }
 
 fn print_values(out: &mut impl Write, bytes: &[u8], key: &[u8], end: usize) -> io::Result<()> {
@@ -113,5 +115,6 @@ pub(crate) fn print_lookups(out: &mut impl Write, text: &[u8]) -> io::Result<()>
         RecordAnswer::Good { steps } => steps,
         RecordAnswer::Refused(_) => 0,
     };
-    print_values(out, bytes, sought, steps.saturating_add(2))
+    print_values(out, bytes, sought, steps.saturating_add(2))?;
+    print_panel(out, bytes)
 }
