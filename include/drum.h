@@ -119,7 +119,7 @@ uint32_t drum_times(const uint8_t *record, size_t record_len, size_t number, uin
 uint32_t drum_panel_name(const uint8_t *record, size_t record_len, uint64_t *answer, size_t answer_len);
 
 /* The name and the id of the step with this number, from 1 on. Accepted: where the name's item begins and where it ends, then the same of the
- * id's; either is empty if there is none. Refused with 53 for a number that is 0 or above the number of steps, where not with 55. */
+ * id's; either has no text if there is none. Refused with 53 for a number that is 0 or above the number of steps, where not with 55. */
 uint32_t drum_panel_step(const uint8_t *record, size_t record_len, size_t number, uint64_t *answer, size_t answer_len);
 
 /* Several drums on one supply: what each gets in a beat. wishes has the strokes that each drum wants, up to 255, for 1 to 8 drums; the supply

@@ -33,9 +33,9 @@ fn shown(bytes: &[u8]) -> Option<Shown> {
     Some(Shown { name: label(name)?, steps: steps.iter().map(labels).collect::<Option<_>>()? })
 }
 
-/// Every record that the sequencer's reader accepts is shown, with its name, its steps and their
-/// ids.
-fn keeps_the_law(bytes: &[u8], shown: Option<&Shown>) -> bool {
+/// Every record that the sequencer's reader accepts is shown, with its name and its count of steps,
+/// the name of each where its item begins, and its id.
+fn agrees_with_the_check(bytes: &[u8], shown: Option<&Shown>) -> bool {
     let Some(record) = record(bytes) else { return true };
     let Some(Shown { name, steps }) = shown else { return false };
     let text = |(start, end): Place| std::str::from_utf8(&bytes[start + 6..end]);
@@ -54,7 +54,7 @@ fn part((start, end): Place) -> String {
 /// largest.
 pub fn told(bytes: &[u8]) -> String {
     let shown = shown(bytes);
-    assert!(keeps_the_law(bytes, shown.as_ref()), "{bytes:?}");
+    assert!(agrees_with_the_check(bytes, shown.as_ref()), "{bytes:?}");
     let Some(Shown { name, steps }) = shown else {
         return " panel !55 !55 !55 !55".to_owned();
     };

@@ -30,17 +30,18 @@ use Rattle.record.specs.Jobs.{opened as job_opened}
 use Rattle.record.proofs.Exact.{meaning-exact}
 use Rattle.record.proofs.Theorems.{step-beyond}
 use Rattle.record.proofs.RoundTrip.{meaning-back}
+use Rattle.panel.specs.Panel.{numbered as panel_numbered}
 use Rattle.panel.specs.Jobs.{panel_name, panel_step, name_of, step_of}
 use Rattle.panel.specs.declared.PanelName.{PanelName}
 use Rattle.panel.specs.declared.PanelName.TheVariants.{Named, Refused as NotNamed}
 use Rattle.panel.specs.declared.PanelStep.{PanelStep}
 use Rattle.panel.specs.declared.PanelStep.TheVariants.{Found as Shown, Refused as NotShown}
-use Rattle.panel.proofs.Placed.{list_start, LabelsStand, text-bytes}
+use Rattle.panel.proofs.Placed.{list_start, LabelsStand, text-inside, text-bytes}
 use Rattle.panel.proofs.Theorem.{name-is, step_start, step-is, step-none, step-labels-stand}
 use Rattle.panel.proofs.Theorem as theorem
 use Rattle.demands.specs.Panels.{SameName, NamedAlike, SameLabels, LabelledAlike}
 use Rattle.panel.specs.Programmes as panel
-use Rattle.panel.specs.Programmes.{AnyItem, AnyStep, AnyProgramme, written, text, list_item, outer_items, HasKind, StepFits, IsProgramme}
+use Rattle.panel.specs.Programmes.{AnyItem, AnyStep, AnyProgramme, written, text, outer_items, HasKind, StepFits, IsProgramme}
 
 -- ---- the programme that a meaning's record is
 
@@ -146,7 +147,7 @@ module _ (b : List ℕ) (m : Meaning) (w : IsRecord b m) where
 part-is : (b : List ℕ) (at : ℕ) (t r : List ℕ) → drop at b ≡ item 3 t ++ r → part_of b at (at + 6 + length t) ≡ text_item t
 unfolding text_item encode
 part-is b at t r e =
-    part-inside b at (at + 6 + length t) (omega arith) (omega (arith, length-drop at b, ap length e, length-append (item 3 t) r, item-length 3 t)) ∙ text-bytes b at t r e
+    part-inside b at (at + 6 + length t) (omega arith) (text-inside b at t r e) ∙ text-bytes b at t r e
 
 -- ---- what both say
 
@@ -205,7 +206,7 @@ module _ (b : List ℕ) (m : Meaning) (w : IsRecord b m) (i : ℕ) where
     found-is = step-found b m w i (slice_get_within m.steps i s e)
 
     same-labels : (start end : ℕ) → good (part start end) ≡ step b (suc i) → (said : PanelStep) → step_of said ≡ panel_step b (suc i) → SameLabels b (suc i) start said
-    unfolding any_step
+    unfolding any_step panel_numbered
     same-labels start end p (Shown ns ne is ie) q =
         let same = good-inj _ _ (q ∙ shown-is) in
         let found : part start end ≡ part at (steps_start m + length (joined (take (suc i) (map step_item m.steps)))) = good-inj _ _ (p ∙ found-is) in
@@ -217,8 +218,6 @@ module _ (b : List ℕ) (m : Meaning) (w : IsRecord b m) (i : ℕ) where
         record {
           meaning = m;
           is = w;
-          before = i;
-          numbered = refl;
           step = s;
           there = e;
           name_end = at + 6 + 6 + length s.name;

@@ -1,7 +1,7 @@
 -- What a sequencer and a panel say of the same bytes: of each record that the sequencer accepts, both have the same name, as many steps, and
 -- the same name and id of each. Uses Base and Told of `refusal`; Meaning, Record and Rules of `meaning`; Jobs of `record` and of `panel`.
 -- Assumes nothing.
-use Rattle.std.specs.Prelude.{◌≡◌, ℕ, suc, ◌+◌, List, length, slice_get, Some}
+use Rattle.std.specs.Prelude.{◌≡◌, ℕ, ◌+◌, List, length, Some}
 use Rattle.refusal.specs.Base.{good, refused}
 use Rattle.refusal.specs.Told.{refusal}
 use Rattle.meaning.specs.Meaning.{Step, Meaning}
@@ -16,6 +16,7 @@ use Rattle.panel.specs.declared.PanelName.{PanelName}
 use Rattle.panel.specs.declared.PanelName.TheVariants.{Named}
 use Rattle.panel.specs.declared.PanelStep.{PanelStep}
 use Rattle.panel.specs.declared.PanelStep.TheVariants.{Found as Shown}
+use Rattle.panel.specs.Panel.{numbered}
 use Rattle.panel.specs.Jobs.{step_of}
 
 -- the panel shows the meaning's name where the lookup by place has it, and as many steps as the check counts
@@ -38,10 +39,8 @@ NamedAlike b (NoRecord e) said = Unit {0}
 pub record SameLabels (b : List ℕ) (number start : ℕ) (said : PanelStep) : Type 0 where
   pub meaning : Meaning
   pub is : IsRecord b meaning
-  pub before : ℕ
-  pub numbered : number ≡ suc before
   pub step : Step
-  pub there : slice_get meaning.steps before ≡ Some step
+  pub there : numbered meaning.steps number ≡ Some step
   pub name_end : ℕ
   pub id_end : ℕ
   pub shown : said ≡ Shown (start + 6) name_end name_end id_end

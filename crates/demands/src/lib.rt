@@ -1,5 +1,5 @@
-// What a caller can count on (document 01, demands 1 to 3). Each function calls the public jobs as a board does, on whatever it is lent,
-// and its contract is a demand: it is proved from the contracts of the jobs alone. What is lent is passed as the jobs take it, one output
+// What a caller can count on: demands 1 to 3 of document 01, and that a panel shows what the check accepts. Each function calls the public
+// jobs as a board does, on whatever it is lent, and its contract is such a promise: it is proved from the contracts of the jobs alone. What is lent is passed as the jobs take it, one output
 // by one, since their clauses name each.
 #![tactic(auto)]
 

@@ -3,7 +3,7 @@ use Rattle.std.proofs.Common.{◌≡◌, refl, sym, ap, ◌∙◌, subst, ℕ, z
 use Rattle.std.specs.List.{AllByRecursion}
 use Rattle.std.specs.Prelude.{slice_range, ◌==◌}
 use Rattle.std.specs.Result.{result_ok}
-use Rattle.std.proofs.lemmas.List.{drop-take, length-map, map-append}
+use Rattle.std.proofs.lemmas.List.{drop-take, drop_all, length-map, map-append}
 use Rattle.std.proofs.lemmas.Option.{option_and_then_some}
 use Rattle.refusal.proofs.Tools.{chosen}
 use Rattle.std.proofs.lemmas.List.Elements.{All-from_recursion}
@@ -68,13 +68,6 @@ module _ (s : List ℕ) (h : Bytes s) (at : ℕ) {i : Item} (e : header_at s at 
 abbrev Within : List ℕ → Item → Type 0
 Within s i = (i.from ≤ i.to) × (i.to ≤ length s)
 
-nothing-left : (s : List ℕ) (at : ℕ) → at ≡ length s → drop at s ≡ []
-nothing-left s at e = go (drop at s) (omega (arith, length-drop at s, e))
-  where
-    go : (l : List ℕ) → length l ≡ 0 → l ≡ []
-    go [] h = refl
-    go (b ∷ l) h = absurd (omega arith)
-
 module _ (s : List ℕ) (h : Bytes s) where
   -- items from a place of a part of these bytes to its end
   pub record Are (content : List ℕ) (at : ℕ) (items : List Item) : Type 0 where
@@ -85,7 +78,7 @@ module _ (s : List ℕ) (h : Bytes s) where
   module _ (content : List ℕ) (hc : Bytes content) (short : length content ≤ length s)
       (same : (from to : ℕ) → from ≤ to → to ≤ length content → slice_range content from to ≡ slice_range s from to) where
     are : (items : List Item) (at : ℕ) → items_from content at ≡ Some items → Are content at items
-    are [] at e = record { bytes = nothing-left content at (items-nil content at e); kinds = tt; within = tt }
+    are [] at e = record { bytes = drop_all at content (omega (arith, items-nil content at e)); kinds = tt; within = tt }
     are (i ∷ more) at e =
         let f = items-first content at i more e in
         let p = spans content at (sym f.is) in
@@ -196,10 +189,10 @@ module _ (s : List ℕ) (h : Bytes s) where
       (λ _ q. never q)))))
 
 -- a list by the element that so many stand before
-split : {A : Type 0} (xs : List A) (n : ℕ) {x : A} → slice_get xs n ≡ Some x → (xs ≡ take n xs ++ x ∷ drop (suc n) xs) × (length (take n xs) ≡ n)
-split [] n e = never e
-split (y ∷ xs) zero e = (ap (λ z. z ∷ xs) cc, refl)
-split (y ∷ xs) (suc n) e = let r = split xs n e in (ap (λ l. y ∷ l) r.0, ap suc r.1)
+parted : {A : Type 0} (xs : List A) (n : ℕ) {x : A} → slice_get xs n ≡ Some x → (xs ≡ take n xs ++ x ∷ drop (suc n) xs) × (length (take n xs) ≡ n)
+parted [] n e = never e
+parted (y ∷ xs) zero e = (ap (λ z. z ∷ xs) cc, refl)
+parted (y ∷ xs) (suc n) e = let r = parted xs n e in (ap (λ l. y ∷ l) r.0, ap suc r.1)
 
 all-parts : {A B : Type 0} (P : B → Type 0) (f : A → B) (xs : List A) (y : A) (ys : List A) → AllByRecursion P (map f (xs ++ y ∷ ys)) → AllByRecursion P (map f xs) × P (f y) × AllByRecursion P (map f ys)
 all-parts P f [] y ys k = (tt, k.0, k.1)
@@ -224,14 +217,14 @@ module _ (s : List ℕ) (h : Bytes s) {whole : Item} (is : header_at s 0 ≡ Ok 
   bytes : item 16 (slice_range s whole.from whole.to) ≡ s
   bytes =
       let p = and_parts (whole.kind == 16) (whole.to == length s) test in
-      sym (item-there s h 0 is ∙ rw (eqb-true whole.kind 16 p.0, nothing-left s whole.to (eqb-true whole.to (length s) p.1)) (append-nil (item 16 (slice_range s whole.from whole.to))))
+      sym (item-there s h 0 is ∙ rw (eqb-true whole.kind 16 p.0, drop_all whole.to s (omega (arith, eqb-true whole.to (length s) p.1))) (append-nil (item 16 (slice_range s whole.from whole.to))))
 
   long : length (slice_range s whole.from whole.to) ≡ whole.to - whole.from
   long = length-take-le (whole.to - whole.from) (drop whole.from s) (omega (arith, length-drop whole.from s, around.fits))
 
   module _ (list : Item) (l : slice_get rest 6 ≡ Some list) where
     parts : (rest ≡ take 6 rest ++ list ∷ drop 7 rest) × (length (take 6 rest) ≡ 6)
-    parts = split rest 6 l
+    parts = parted rest 6 l
 
     inside : Within s list
     inside = all-at (Within s) (take 6 rest) list (drop 7 rest) (subst (AllByRecursion (Within s)) parts.0 inner.within.1)

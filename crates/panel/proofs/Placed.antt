@@ -82,6 +82,9 @@ text-placed s at t r u e =
     let n : at + 6 + length t - (at + 6) ≡ length t = omega arith in
     rw (n, behind-head s at 3 t r e, take_at t r (length t) refl, u) refl
 
+pub text-inside : (s : List ℕ) (at : ℕ) (t r : List ℕ) → drop at s ≡ item 3 t ++ r → at + 6 + length t ≤ length s
+text-inside s at t r e = omega (arith, length-drop at s, ap length e, length-append (item 3 t) r, item-length 3 t)
+
 pub text-bytes : (s : List ℕ) (at : ℕ) (t r : List ℕ) → drop at s ≡ item 3 t ++ r → slice_range s at (at + 6 + length t) ≡ item 3 t
 text-bytes s at t r e =
     let n : at + 6 + length t - at ≡ length (item 3 t) = omega (arith, item-length 3 t) in
@@ -258,6 +261,9 @@ module _ (b : List ℕ) (p : AnyProgramme) (w : IsProgramme b p) where
     list-filled,
     all-given b small p.steps (list_start + 6) (written p.more) (recursion_from_All StepFits p.steps w.fits.steps) (omega (arith, list-fits, item-length p.list_kind (list_item p).content)) steps-stand,
   ) refl
+
+  pub name-inside : name_end ≤ length b
+  name-inside = text-inside b 6 p.name behind_name inner
 
   pub name-bytes : slice_range b 6 name_end ≡ item 3 p.name
   name-bytes = text-bytes b 6 p.name behind_name inner

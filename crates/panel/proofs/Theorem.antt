@@ -8,7 +8,7 @@ use Rattle.item.proofs.Exact.{bytes_of}
 use Rattle.panel.specs.Panel.{programme, numbered, Programme}
 use Rattle.panel.specs.Jobs.{given, start_of, panel_name, panel_step}
 use Rattle.panel.specs.Programmes.{AnyStep, AnyProgramme, written, step_item, IsProgramme, NameShown, StepShown, ShowsName, ShowsStep}
-use Rattle.panel.proofs.Placed.{list_start, steps-stand, programme-is, name-bytes, labels, LabelsStand, labels-many, labels-nth, step-stands, labels-stand, text-bytes}
+use Rattle.panel.proofs.Placed.{list_start, steps-stand, programme-is, name-inside, name-bytes, labels, LabelsStand, labels-many, labels-nth, step-stands, labels-stand, text-inside, text-bytes}
 use Rattle.panel.proofs.Made.{programme-made}
 
 module _ (b : List ℕ) (p : AnyProgramme) (w : IsProgramme b p) where
@@ -17,7 +17,7 @@ module _ (b : List ℕ) (p : AnyProgramme) (w : IsProgramme b p) where
   name-is = rw (programme-is b p w, labels-many p.steps (list_start b p w + 6)) refl
 
   name-shown : NameShown b p (panel_name b)
-  name-shown = record { start = 6; end = 6 + 6 + length p.name; is = name-is; name = name-bytes b p w }
+  name-shown = record { start = 6; end = 6 + 6 + length p.name; is = name-is; inside = name-inside b p w; name = name-bytes b p w }
 
   -- where the step that so many stand before begins
   abbrev pub step_start : ℕ → ℕ
@@ -60,6 +60,8 @@ module _ (b : List ℕ) (p : AnyProgramme) (w : IsProgramme b p) where
             id_start = at + 6 + 6 + length s.name;
             id_end = at + 6 + 6 + length s.name + 6 + length s.id;
             is = step-is i e;
+            name_inside = text-inside b (at + 6) s.name there.behind_name there.name;
+            id_inside = text-inside b (at + 6 + 6 + length s.name) s.id there.behind_id there.id;
             name = text-bytes b (at + 6) s.name there.behind_name there.name;
             id = text-bytes b (at + 6 + 6 + length s.name) s.id there.behind_id there.id;
           }

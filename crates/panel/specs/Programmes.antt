@@ -1,7 +1,7 @@
 -- What a panel counts on, told by what may be written: a programme's labels among items of any kind, whatever drum boards will know one day.
 -- A panel shows the labels of every such programme, and of no other bytes. Uses Base of `refusal`; Utf8 of `utf8`; Encode of `item`; Panel of
 -- this crate. Assumes nothing.
-use Rattle.std.specs.Prelude.{◌≡◌, ℕ, ◌<◌, ◌^◌, List, ◌∷◌, ◌++◌, map, length, slice_range, All, MatchOption}
+use Rattle.std.specs.Prelude.{◌≡◌, ℕ, ◌<◌, ◌≤◌, ◌^◌, List, ◌∷◌, ◌++◌, map, length, slice_range, All, MatchOption}
 use Rattle.std.specs.List.{flat_map}
 use Rattle.refusal.specs.Base.{Answer, good, refused}
 use Rattle.utf8.specs.Utf8.{Utf8}
@@ -73,19 +73,23 @@ pub record IsProgramme (b : List ℕ) (p : AnyProgramme) : Type 0 where
 
 -- ---- what is shown
 
--- the parts of some bytes are the item of this name, and the items of this name and this id
+-- an answer gives the part that is the item of the name, and how many steps there are
 pub record NameShown (b : List ℕ) (p : AnyProgramme) (a : Answer (ℕ × ℕ × ℕ)) : Type 0 where
   pub start : ℕ
   pub end : ℕ
   pub is : a ≡ good (start, end, length p.steps)
+  pub inside : end ≤ length b
   pub name : slice_range b start end ≡ item 3 p.name
 
+-- the parts that are the items of a step's name and id
 pub record StepShown (b : List ℕ) (s : AnyStep) (a : Answer (ℕ × ℕ × ℕ × ℕ)) : Type 0 where
   pub name_start : ℕ
   pub name_end : ℕ
   pub id_start : ℕ
   pub id_end : ℕ
   pub is : a ≡ good (name_start, name_end, id_start, id_end)
+  pub name_inside : name_end ≤ length b
+  pub id_inside : id_end ≤ length b
   pub name : slice_range b name_start name_end ≡ item 3 s.name
   pub id : slice_range b id_start id_end ≡ item 3 s.id
 

@@ -2,9 +2,8 @@
 // not show is passed over by its length, of whatever kind it is.
 #![tactic(auto)]
 
-ghost use Rattle.std.specs.Prelude.{◌≡◌, ◌≤◌, ◌&&◌, ◌==◌, List, length, slice_get, is_some, IfSome, Some};
+ghost use Rattle.std.specs.Prelude.{◌≡◌, ◌≤◌, ◌&&◌, ◌==◌, List, length, is_some, IfSome, Some};
 ghost use Rattle.std.specs.Option.{option_map};
-ghost use Rattle.item.specs.declared.Item.{Item as Seen};
 ghost use Rattle.panel.specs.Panel.{items_from, labels_of, steps_in, numbered};
 ghost use Rattle.panel.specs.declared.Labels.{Labels as Named};
 ghost use Rattle.panel.specs.Jobs as definition;
@@ -152,8 +151,7 @@ fn labels_at(s: &[u8], list: Item, number: usize) -> Option<Labels>
 }
 
 /// The programme's name and how many steps it has. Whatever else the record holds is passed over by its length, of whatever kind it is, and
-/// there is no limit on the record's size. Refused with 55 where the bytes are not one item of kind 16 that is filled by items, of which the
-/// first is the name and the eighth is filled by steps, each of them filled by items that begin with its name and its id.
+/// there is no limit on the record's size. All other bytes than those of a programme are refused with 55, the whole before anything is given.
 pub fn panel_name(record: &[u8]) -> PanelName
     ensures answer { name_of result ≡ definition.panel_name «record».now }
     ensures programmes { ShowsName «record».now (name_of result) }

@@ -63,7 +63,7 @@ fn answer(
         Question::Lookups => steps::print_lookups(out, text)?,
         Question::Shares => shares::print_shares(out, text)?,
         Question::Logs => logs::print_logs(out, text)?,
-        Question::Panel => panels::print_checked(out, text)?,
+        Question::Panel => records::print_checked(out, text)?,
     }
     writeln!(out)
 }

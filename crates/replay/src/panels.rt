@@ -1,5 +1,5 @@
 // What a panel shows of a record.
-use crate::records::{print_check, print_part, print_refused};
+use crate::print::{print_part, print_refused};
 use panel::{PanelName, PanelStep, panel_name, panel_step};
 use std::io;
 use std::io::Write;
@@ -43,9 +43,4 @@ pub(crate) fn print_panel(out: &mut impl Write, bytes: &[u8]) -> io::Result<()> 
         print_step(out, bytes, number)?;
     }
     print_step(out, bytes, usize::MAX)
-}
-
-pub(crate) fn print_checked(out: &mut impl Write, bytes: &[u8]) -> io::Result<()> {
-    print_check(out, bytes)?;
-    print_panel(out, bytes)
 }

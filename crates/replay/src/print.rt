@@ -1,4 +1,6 @@
 // What the sections print with.
+use record::part;
+use refusal::Refusal;
 use std::io::Write;
 use std::{fmt, io};
 
@@ -58,4 +60,18 @@ pub(crate) fn mark_others<T: Copy + PartialEq>(
 pub(crate) fn print_written(out: &mut impl Write, lent: &[u8], size: usize) -> io::Result<()> {
     write!(out, " {}", Hex(front(lent, size)))?;
     mark_others(out, lent, size, 7)
+}
+
+// Where a part begins, and how long it is.
+pub(crate) fn print_part(
+    out: &mut impl Write,
+    bytes: &[u8],
+    start: usize,
+    end: usize,
+) -> io::Result<()> {
+    write!(out, " {start}+{}", part(bytes, start, end).len())
+}
+
+pub(crate) fn print_refused(out: &mut impl Write, e: Refusal) -> io::Result<()> {
+    write!(out, " !{}", e.told().number)
 }

@@ -1,25 +1,11 @@
 // What the check of a record and its lookups answer.
 use crate::panels::print_panel;
+use crate::print::{print_part, print_refused};
 use crate::stream::next_text;
 use console::Numbers;
 use record::{Lookup, RecordAnswer, part};
-use refusal::Refusal;
 use std::io;
 use std::io::{Read, Write};
-
-// Where a part begins, and how long it is.
-pub(crate) fn print_part(
-    out: &mut impl Write,
-    bytes: &[u8],
-    start: usize,
-    end: usize,
-) -> io::Result<()> {
-    write!(out, " {start}+{}", part(bytes, start, end).len())
-}
-
-pub(crate) fn print_refused(out: &mut impl Write, e: Refusal) -> io::Result<()> {
-    write!(out, " !{}", e.told().number)
-}
 
 pub(crate) fn print_lookup(out: &mut impl Write, bytes: &[u8], found: Lookup) -> io::Result<()> {
     match found {
@@ -41,7 +27,7 @@ fn print_lookups(out: &mut impl Write, bytes: &[u8], steps: usize) -> io::Result
 }
 
 // Gives how many steps there are, if it is a record.
-pub(crate) fn print_check(out: &mut impl Write, bytes: &[u8]) -> io::Result<Option<usize>> {
+fn print_check(out: &mut impl Write, bytes: &[u8]) -> io::Result<Option<usize>> {
     match record::check_record(bytes) {
         RecordAnswer::Good { steps } => {
             write!(out, "good {steps}")?;
@@ -62,6 +48,12 @@ pub(crate) fn print_record(out: &mut impl Write, bytes: &[u8]) -> io::Result<()>
         print_lookup(out, bytes, record::field(bytes, 9))?;
         print_lookup(out, bytes, record::step(bytes, 0))?;
     }
+    print_panel(out, bytes)
+}
+
+// The check alone, and what a panel shows.
+pub(crate) fn print_checked(out: &mut impl Write, bytes: &[u8]) -> io::Result<()> {
+    print_check(out, bytes)?;
     print_panel(out, bytes)
 }
 
