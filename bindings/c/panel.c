@@ -133,9 +133,13 @@ static void check(const uint8_t *bytes, size_t n) {
 
 int main(int argc, char **argv) {
     uint64_t answer[DRUM_ANSWER];
-    FILE *file = argc == 2 ? fopen(argv[1], "rb") : NULL;
-    if (file == NULL) {
+    if (argc != 2) {
         fprintf(stderr, "usage: panel FILE\n");
+        return 2;
+    }
+    FILE *file = fopen(argv[1], "rb");
+    if (file == NULL) {
+        perror(argv[1]);
         return 2;
     }
     size_t text_len = fread(text, 1, sizeof text, file);

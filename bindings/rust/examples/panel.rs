@@ -67,9 +67,16 @@ fn run(text: &[u8]) -> Result<(), Refusal> {
 }
 
 fn main() -> ExitCode {
-    let Some(text) = std::env::args().nth(1).and_then(|path| std::fs::read(path).ok()) else {
+    let Some(path) = std::env::args().nth(1) else {
         eprintln!("usage: panel FILE");
         return ExitCode::from(2);
+    };
+    let text = match std::fs::read(&path) {
+        Ok(text) => text,
+        Err(e) => {
+            eprintln!("{path}: {e}");
+            return ExitCode::from(2);
+        }
     };
     match run(&text) {
         Ok(()) => ExitCode::SUCCESS,

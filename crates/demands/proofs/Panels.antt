@@ -18,7 +18,7 @@ use Rattle.entries.proofs.Standing.{value-item, kind-small}
 use Rattle.meaning.specs.Meaning.{Step, Meaning}
 use Rattle.meaning.specs.Record.{joined, optional, expected, text_item, step_parts, step_item, tags_item, defaults_parts, defaults_item, steps_item, fields, record_of}
 use Rattle.meaning.specs.Rules.{Each, StepRules, IsRecord}
-use Rattle.record.specs.Jobs.{Found, nothing, part, part_at, steps_start, field, step, part_of, check_record, answer_of, lookup_of}
+use Rattle.record.specs.Jobs.{opened as job_opened, Found, nothing, part, part_at, steps_start, field, step, part_of, check_record, answer_of, lookup_of}
 use Rattle.record.specs.declared.RecordAnswer.{RecordAnswer}
 use Rattle.record.specs.declared.RecordAnswer.TheVariants.{Good, Refused as NoRecord}
 use Rattle.record.specs.declared.Lookup.{Lookup}
@@ -26,7 +26,6 @@ use Rattle.record.specs.declared.Lookup.TheVariants.{Found as FoundPart, Nothing
 use Rattle.record.proofs.Headers.{part-inside}
 use Rattle.record.proofs.Lookups.{Opened, opening, field_is, step_is, step-zero, numbered-in, length-steps, fields-start}
 use Rattle.record.specs.Read.{meaning_in}
-use Rattle.record.specs.Jobs.{opened as job_opened}
 use Rattle.record.proofs.Exact.{meaning-exact}
 use Rattle.record.proofs.Theorems.{step-beyond}
 use Rattle.record.proofs.RoundTrip.{meaning-back}

@@ -1,6 +1,6 @@
 // What a caller can count on: demands 1 to 3 of document 01, and that a panel shows what the check accepts. Each function calls the public
-// jobs as a board does, on whatever it is lent, and its contract is such a promise: it is proved from the contracts of the jobs alone. What is lent is passed as the jobs take it, one output
-// by one, since their clauses name each.
+// jobs as a board does, on whatever it is lent, and its contract is such a promise: it is proved from the contracts of the jobs alone. What
+// is lent is passed as the jobs take it, one output by one, since their clauses name each.
 #![tactic(auto)]
 
 ghost use Rattle.std.specs.Prelude.{◌≡◌, true};

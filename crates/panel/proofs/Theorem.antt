@@ -1,7 +1,6 @@
 -- Of every programme the labels are shown, and what is accepted is a programme. Assumes nothing.
-use Rattle.std.proofs.Common.{Fits, w8, ◌≡◌, refl, sym, ◌∙◌, ℕ, zero, suc, ◌+◌, ◌-◌, arith, List, length, drop, map, take, Option, None, Some, slice_get, get_or}
+use Rattle.std.proofs.Common.{Fits, w8, ◌≡◌, refl, sym, ◌∙◌, ℕ, zero, suc, ◌+◌, ◌-◌, arith, List, length, drop, map, take, Option, None, Some, slice_get, get_or, inl, inr, ◌++◌}
 use Rattle.std.specs.Prelude.{MatchOption, ◌⊎◌}
-use Rattle.std.proofs.Common.{inl, inr, ◌++◌}
 use Rattle.refusal.specs.Base.{Answer, good, refused, ◌>>=◌}
 use Rattle.refusal.proofs.Tools.{refused≢good}
 use Rattle.item.proofs.Exact.{bytes_of}

@@ -151,7 +151,9 @@ fn labels_at(s: &[u8], list: Item, number: usize) -> Option<Labels>
 }
 
 /// The programme's name and how many steps it has. Whatever else the record holds is passed over by its length, of whatever kind it is, and
-/// there is no limit on the record's size. All other bytes than those of a programme are refused with 55, the whole before anything is given.
+/// there is no limit on the record's size. Refused with 55 unless the bytes are one item of kind 16 that items fill, at least eight: the
+/// first a text, the name, and the eighth filled by steps. Each step is filled by items, too, of which the first two are texts, its name and
+/// its id. All of them are judged before anything is given.
 pub fn panel_name(record: &[u8]) -> PanelName
     ensures answer { name_of result ≡ definition.panel_name «record».now }
     ensures programmes { ShowsName «record».now (name_of result) }
