@@ -135,7 +135,7 @@ fn block_key(s: &[u8], levels: usize, number: u32, writer: &mut Writer<'_>) -> R
 #[tactic(auto, using(crate::proofs::Turns::children))]
 #[cycle(block)]
 fn child(
-    lines: &Lines<'_>,
+    lines: &Lines<'_, '_>,
     i: usize,
     indent: usize,
     levels: usize,
@@ -156,7 +156,7 @@ fn child(
 #[tactic(auto, using(crate::proofs::Turns::entry_values))]
 #[cycle(block)]
 fn entry_value(
-    lines: &Lines<'_>,
+    lines: &Lines<'_, '_>,
     at: EntryStart,
     levels: usize,
     writer: &mut Writer<'_>,
@@ -183,7 +183,7 @@ fn entry_value(
 #[tactic(auto, using(crate::proofs::Turns::entry_reads))]
 #[cycle(block)]
 fn entry(
-    lines: &Lines<'_>,
+    lines: &Lines<'_, '_>,
     at: EntryStart,
     levels: usize,
     writer: &mut Writer<'_>,
@@ -204,7 +204,7 @@ fn entry(
 
 // Whether line `i` goes on a mapping at this indentation, and where its key ends.
 #[tactic(auto, using(crate::proofs::Parts::keys))]
-fn key_at(lines: &Lines<'_>, i: usize, indent: usize) -> Found
+fn key_at(lines: &Lines<'_, '_>, i: usize, indent: usize) -> Found
     requires { i ≤ length lines.now }
     ensures { result ≡ found_of (key_here indent (drop i lines.now)) }
 {
@@ -220,7 +220,7 @@ fn key_at(lines: &Lines<'_>, i: usize, indent: usize) -> Found
 #[tactic(auto, using(crate::proofs::Turns::all_turns))]
 #[cycle(block)]
 fn all_entries(
-    lines: &Lines<'_>,
+    lines: &Lines<'_, '_>,
     first: usize,
     found: Found,
     indent: usize,
@@ -263,7 +263,7 @@ fn all_entries(
 #[tactic(auto, using(crate::proofs::Turns::once_turns))]
 #[cycle(block)]
 fn entries_once(
-    lines: &Lines<'_>,
+    lines: &Lines<'_, '_>,
     first: usize,
     indent: usize,
     levels: usize,
@@ -298,7 +298,7 @@ fn entries_once(
 // at most 2,048 lines have a key, so that the square of comparing each is bounded.
 #[cycle(block)]
 fn entries(
-    lines: &Lines<'_>,
+    lines: &Lines<'_, '_>,
     first: usize,
     found: Found,
     indent: usize,
@@ -323,7 +323,7 @@ fn entries(
 #[tactic(auto, using(crate::proofs::Turns::mappings))]
 #[cycle(block)]
 fn mapping(
-    lines: &Lines<'_>,
+    lines: &Lines<'_, '_>,
     i: usize,
     split: usize,
     indent: usize,
@@ -345,7 +345,7 @@ fn mapping(
 #[tactic(auto, using(crate::proofs::Turns::inlines))]
 #[cycle(block)]
 fn inline_mapping(
-    lines: &Lines<'_>,
+    lines: &Lines<'_, '_>,
     at: EntryStart,
     levels: usize,
     writer: &mut Writer<'_>,
@@ -377,7 +377,7 @@ fn inline_mapping(
 #[tactic(auto, using(crate::proofs::Turns::items))]
 #[cycle(block)]
 fn item(
-    lines: &Lines<'_>,
+    lines: &Lines<'_, '_>,
     i: usize,
     levels: usize,
     writer: &mut Writer<'_>,
@@ -407,7 +407,7 @@ fn item(
 
 // Whether line `i` goes on a sequence at this indentation.
 #[tactic(auto, using(crate::proofs::Parts::dashes))]
-fn goes_on(lines: &Lines<'_>, i: usize, indent: usize) -> bool
+fn goes_on(lines: &Lines<'_, '_>, i: usize, indent: usize) -> bool
     requires { i ≤ length lines.now }
     ensures { result ≡ dash_here indent (drop i lines.now) }
 {
@@ -418,7 +418,7 @@ fn goes_on(lines: &Lines<'_>, i: usize, indent: usize) -> bool
 #[tactic(auto, using(crate::proofs::Turns::sequences))]
 #[cycle(block)]
 fn sequence(
-    lines: &Lines<'_>,
+    lines: &Lines<'_, '_>,
     first: usize,
     indent: usize,
     levels: usize,
@@ -442,7 +442,7 @@ fn sequence(
 #[tactic(auto, using(crate::proofs::Turns::blocks))]
 #[cycle(block)]
 pub fn block(
-    lines: &Lines<'_>,
+    lines: &Lines<'_, '_>,
     i: usize,
     levels: usize,
     writer: &mut Writer<'_>,

@@ -494,12 +494,12 @@ pub fn dashed(line: &[u8]) -> bool
 
 /// The significant lines of a text: the text, and a row for each line.
 #[derive(Drop)]
-pub struct Lines<'a> {
-    text: &'a [u8],
-    rows: &'a [Row],
+pub struct Lines<'text, 'rows> {
+    text: &'text [u8],
+    rows: &'rows [Row],
 }
 
-impl<'a> Model for Lines<'a> {
+impl<'text, 'rows> Model for Lines<'text, 'rows> {
     ghost use Rattle.std.specs.Prelude.{List};
     ghost use Rattle.lines.specs.Lines.{Line};
 
@@ -513,9 +513,9 @@ impl<'a> Model for Lines<'a> {
     ghost invariant = { λ s. Ready s.text.now s.rows.now };
 }
 
-impl<'a> Lines<'a> {
+impl<'text, 'rows> Lines<'text, 'rows> {
     /// The lines that `read_lines` found, by the rows that it filled.
-    pub fn new(text: &'a [u8], rows: &'a [Row]) -> Lines<'a>
+    pub fn new(text: &'text [u8], rows: &'rows [Row]) -> Lines<'text, 'rows>
         requires { Ready text.now rows.now }
         ensures { result ≡ table_lines text.now rows.now }
     {
@@ -543,14 +543,15 @@ impl<'a> Lines<'a> {
     /// The number of line `i` in the text, from 1.
     pub fn number(&self, i: usize) -> u32
         requires { i < length self.now }
-        ensures { result ≡ (line_at self.now i).number }
+        ensures value { result ≡ (line_at self.now i).number }
+        ensures narrow { result ≤ 65535 }
     {
         let rows = self.rows;
         u32::from(rows[i].number)
     }
 
-    /// The text of line `i`.
-    pub fn text(&self, i: usize) -> &'a [u8]
+    /// The text of line `i`, which stays when the rows are filled anew.
+    pub fn text(&self, i: usize) -> &'text [u8]
         requires { i < length self.now }
         ensures value { result.now ≡ (line_at self.now i).text }
         ensures short { length result.now ≤ 65535 }

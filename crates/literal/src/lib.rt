@@ -44,7 +44,7 @@ fn extra_spaces(size: usize, deeper: usize) -> usize
 // The lines from `first` on that are indented by at least `indent`. By their numbers, here and in `put_lines`: lines are asked for by number, and
 // that of the first behind them is what is answered.
 #[tactic(auto, using(crate::proofs::Laws::counts))]
-fn extent(lines: &Lines<'_>, first: usize, indent: usize) -> Body
+fn extent(lines: &Lines<'_, '_>, first: usize, indent: usize) -> Body
     requires { first ≤ length lines.now }
     ensures { Extent lines.now first indent result }
 {
@@ -78,7 +78,7 @@ fn put_line(line: &[u8], spaces: usize, to: usize, writer: &mut Writer<'_>)
 
 // The lines that `extent` counts, up to `to`.
 #[tactic(auto, using(crate::proofs::Laws::lines_puts))]
-fn put_lines(lines: &Lines<'_>, first: usize, indent: usize, to: usize, writer: &mut Writer<'_>)
+fn put_lines(lines: &Lines<'_, '_>, first: usize, indent: usize, to: usize, writer: &mut Writer<'_>)
     requires first { first ≤ length lines.now }
     requires room { to ≤ cap_of writer.old }
     requires most { to ≤ writer.old.used + length (body_from lines.now indent first) }
@@ -109,7 +109,7 @@ fn kept_len(len: usize, chomping: Chomping) -> usize
 // The literal of which line `i` is the first, and the first line behind it.
 #[tactic(auto, using(crate::proofs::Whole::wholes))]
 fn put_literal(
-    lines: &Lines<'_>,
+    lines: &Lines<'_, '_>,
     i: usize,
     chomping: Chomping,
     writer: &mut Writer<'_>,
@@ -131,7 +131,7 @@ fn put_literal(
 /// The literal of a key that is indented by `under`, from line `i` on, and the first line behind it.
 #[tactic(auto, using(crate::proofs::Whole::literals))]
 pub fn literal(
-    lines: &Lines<'_>,
+    lines: &Lines<'_, '_>,
     i: usize,
     under: usize,
     chomping: Chomping,

@@ -7,7 +7,7 @@ use std::io::Write;
 use tree::LONGEST;
 
 // By place, as whoever reads lines asks for them.
-fn print_lines_of(out: &mut impl Write, lines: &Lines<'_>) -> io::Result<()> {
+fn print_lines_of(out: &mut impl Write, lines: &Lines<'_, '_>) -> io::Result<()> {
     write!(out, "ok")?;
     for i in 0..lines.len() {
         let content = Hex(lines.text(i));

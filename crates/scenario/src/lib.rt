@@ -58,7 +58,7 @@ fn store(lines: &mut [u32], i: usize, n: u32)
 // The steps of the items that stand in a part, and their lines; it tells how many they are.
 fn put_steps(
     part: Part<'_>,
-    text: &Lines<'_>,
+    text: &Lines<'_, '_>,
     writer: &mut RecordWriter<'_>,
     lines: &mut [u32],
 ) -> Result<usize, Refusal>
@@ -94,7 +94,7 @@ fn put_steps(
 // The record of the tree that stands at the front: its parts are read, then its fields written, at last its header.
 fn put_record(
     s: Encoded<'_>,
-    text: &Lines<'_>,
+    text: &Lines<'_, '_>,
     writer: &mut RecordWriter<'_>,
     lines: &mut [u32],
 ) -> Result<usize, Refusal>

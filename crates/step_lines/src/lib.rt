@@ -26,7 +26,7 @@ pub struct StepLine {
 
 // Whether a line is exactly `steps:` at indentation 0.
 #[tactic(auto, using(crate::proofs::Laws::are_steps), unfolding(crate::specs::StepLines::is_steps, refusal::specs::Base::bytes))]
-fn is_steps(lines: &Lines<'_>, i: usize) -> bool
+fn is_steps(lines: &Lines<'_, '_>, i: usize) -> bool
     requires { i < length lines.now }
     ensures { result ≡ is_steps (line_at lines.now i) }
 {
@@ -34,7 +34,7 @@ fn is_steps(lines: &Lines<'_>, i: usize) -> bool
 }
 
 // The first that is, if there is one.
-fn steps_line(lines: &Lines<'_>) -> Option<usize>
+fn steps_line(lines: &Lines<'_, '_>) -> Option<usize>
     ensures { MatchOption result (drop (length lines.now) lines.now ≡ behind_steps lines.now)
         (λ i. (i < length lines.now) × (drop (i + 1) lines.now ≡ behind_steps lines.now)) }
 {
@@ -42,7 +42,7 @@ fn steps_line(lines: &Lines<'_>) -> Option<usize>
 }
 
 // The line behind it.
-fn behind_steps(lines: &Lines<'_>) -> usize
+fn behind_steps(lines: &Lines<'_, '_>) -> usize
     ensures { (drop result lines.now ≡ behind_steps lines.now) × (result ≤ length lines.now) }
 {
     let count = lines.len();
@@ -53,7 +53,7 @@ fn behind_steps(lines: &Lines<'_>) -> usize
 }
 
 /// Where the dashes of the steps stand, if there are any: behind the line `steps:`, at the indentation of the line there.
-pub fn first_dash(lines: &Lines<'_>) -> Dashes
+pub fn first_dash(lines: &Lines<'_, '_>) -> Dashes
     ensures { Begins lines.now (length lines.now) result }
 {
     let at = behind_steps(lines);
@@ -67,7 +67,7 @@ pub fn first_dash(lines: &Lines<'_>) -> Dashes
 }
 
 /// The line of the next dash from line `i` on; 0 where none comes before a line less indented.
-pub fn next_dash(lines: &Lines<'_>, i: usize, indent: usize) -> StepLine
+pub fn next_dash(lines: &Lines<'_, '_>, i: usize, indent: usize) -> StepLine
     requires { i ≤ length lines.now }
     ensures { Next lines.now (length lines.now) indent i result }
 {

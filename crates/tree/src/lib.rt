@@ -29,7 +29,7 @@ pub enum TreeAnswer {
 
 // The value of all lines. It is lent the output and no writer, which it would have to know to be empty.
 #[tactic(auto, using(crate::proofs::Reading::lines_read))]
-fn tree_of(lines: &Lines<'_>, out: &mut [u8]) -> Result<usize, Refusal>
+fn tree_of(lines: &Lines<'_, '_>, out: &mut [u8]) -> Result<usize, Refusal>
     requires { length out.old ≤ 2 ^ 20 }
     ensures { AgreesTree (definition.tree_of (length out.old) lines.now) out.old out.new result }
 {

@@ -58,7 +58,7 @@ pub entries_once-returns-then-has_key : goal.entries_once-returns-then-has_key
 entries_once-returns-then-has_key t c =
     let l = c.loop-split in
     let h = key_in_part c.entry.new.writer _ c.written-written.ensures c.part-earlier.ensures.bytes c.part-earlier.ensures.places c.used-start.ensures c.used-before.ensures (omega (arith, l.invariant.appends.used)) (omega (arith, c.in_ok-read.ensures.appends.used)) c.has_key.ensures in
-    turn-twice l.invariant c.in-At.split (sym c.in-At.is ∙ c.key_at.ensures) c.in_ok-read.ensures c.has_key.result (rw (c.used-before.ensures, c.written-written.ensures) at h) c.if-has_key.true c.number-line.result c.number-line.ensures
+    turn-twice l.invariant c.in-At.split (sym c.in-At.is ∙ c.key_at.ensures) c.in_ok-read.ensures c.has_key.result (rw (c.used-before.ensures, c.written-written.ensures) at h) c.if-has_key.true c.number-line.result c.number-line.ensures.value
 
 pub entries_once-loop-split-preserved : goal.entries_once-loop-split-preserved
 entries_once-loop-split-preserved t c =
@@ -74,7 +74,7 @@ entry-returns-in_err-block_key t c =
     let cap = cap_of w in
     let x = c.text-text in
     let n = c.number in
-    rw (err_is _ c.from_residual.ensures.1) (entry-unkeyed-at ls a.at.line c.requires.line cap a.levels w.used a.at.from a.at.split x.result.now x.ensures.value n.result n.ensures _ c.in_err-block_key.ensures)
+    rw (err_is _ c.from_residual.ensures.1) (entry-unkeyed-at ls a.at.line c.requires.line cap a.levels w.used a.at.from a.at.split x.result.now x.ensures.value n.result n.ensures.value _ c.in_err-block_key.ensures)
 
 pub entry-returns-in_err-next : goal.entry-returns-in_err-next
 entry-returns-in_err-next t c =
@@ -84,7 +84,7 @@ entry-returns-in_err-next t c =
     let cap = cap_of w in
     let x = c.text-text in
     let n = c.number in
-    rw (err_is _ c.from_residual-in_err-next.ensures.1) (entry-unvalued-at ls a.at.line c.requires.line cap a.levels w.used a.at.from a.at.split x.result.now x.ensures.value n.result n.ensures w _ c.in_ok-block_key.ensures _ (len_appended c.in_ok-block_key.ensures.appends) _ c.in_err-next.ensures)
+    rw (err_is _ c.from_residual-in_err-next.ensures.1) (entry-unvalued-at ls a.at.line c.requires.line cap a.levels w.used a.at.from a.at.split x.result.now x.ensures.value n.result n.ensures.value w _ c.in_ok-block_key.ensures _ (len_appended c.in_ok-block_key.ensures.appends) _ c.in_err-next.ensures)
 
 pub inline_mapping-returns-in_err-first : goal.inline_mapping-returns-in_err-first
 inline_mapping-returns-in_err-first t c =
@@ -107,7 +107,7 @@ inline_mapping-returns-then-has_key t c =
     let x = line_at ls a.at.line in
     let e = c.in_ok-first.ensures in
     let h = key_in_part c.entries.new.writer _ c.written-written.ensures c.part-behind.ensures.bytes c.part-behind.ensures.places c.used-later.ensures c.used.ensures (omega (arith, c.in_ok-next.ensures.appends.used)) (omega arith) c.has_key.ensures in
-    inline-twice w _ _ c.in_ok-header.ensures a.levels x.number (column_at x a.at.from) (text_at x a.at.from) a.at.split (drop (a.at.line + 1) ls) ls (a.at.line + 1) _ _ _ e (c.indent.result + a.at.from) (ap (λ (k : ℕ). k + a.at.from) c.indent.ensures.value) _ _ c.in_ok-next.ensures c.has_key.result (rw c.written-written.ensures at h) c.if-has_key.true c.number-line.result c.number-line.ensures
+    inline-twice w _ _ c.in_ok-header.ensures a.levels x.number (column_at x a.at.from) (text_at x a.at.from) a.at.split (drop (a.at.line + 1) ls) ls (a.at.line + 1) _ _ _ e (c.indent.result + a.at.from) (ap (λ (k : ℕ). k + a.at.from) c.indent.ensures.value) _ _ c.in_ok-next.ensures c.has_key.result (rw c.written-written.ensures at h) c.if-has_key.true c.number-line.result c.number-line.ensures.value
 
 pub inline_mapping-returns : goal.inline_mapping-returns
 inline_mapping-returns t c =

@@ -39,7 +39,7 @@ pub returns-in-Some : goal.returns-in-Some
 returns-in-Some c =
     let a = c.args in
     let f = rw c.in-Some.is at (found (goal.at.returns-in-Some c).After-find-dash) in
-    search-some a.lines.now a.indent a.i c.in-Some.d f.1 f.2 f.3 f.0 f.4 _ c.number.ensures refl
+    search-some a.lines.now a.indent a.i c.in-Some.d f.1 f.2 f.3 f.0 f.4 _ c.number.ensures.value refl
 
 pub returns-in-None : goal.returns-in-None
 returns-in-None c =
