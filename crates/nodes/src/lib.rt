@@ -1,9 +1,11 @@
 // What is read of a tree where it stands in its bytes, and what is written of it: scalars as key text, values as they are.
 #![tactic(auto)]
 
-ghost use Rattle.std.specs.Prelude.{◌≡◌, ◌≤◌, ◌^◌, IfSome, length};
+ghost use Rattle.std.specs.Prelude.{◌≡◌, ◌≤◌, ◌+◌, ◌^◌, IfSome, length, take, drop};
 ghost use Rattle.std.proofs.Math.Option.{Option};
 ghost use Rattle.item.specs.Tree.{Yaml, Entries, get};
+ghost use Rattle.item.specs.Encode.{number, signed};
+ghost use Rattle.item.specs.Decode.{untwos};
 ghost use Rattle.entries.specs.Entries.{HoldsIn};
 ghost use Rattle.nodes.specs.Writing.{Stored};
 ghost use Rattle.nodes.specs.Contract.{FindsNode, text_of, told_of, scalar_text};
@@ -39,6 +41,16 @@ pub fn scalar_of(node: Option<Node<'_>>) -> Option<Scalar<'_>>
     ensures text { (o : Option Yaml) → FindsNode o node.entry → told_of result ≡ scalar_text o }
 {
     node?.scalar()
+}
+
+/// The integer whose eight bytes stand at a place, the lowest first.
+pub fn integer_at(s: &[u8], at: usize) -> Integer
+    requires { at + 8 ≤ length s.now }
+    ensures { signed result.negative result.magnitude ≡ untwos (number (take 8 (drop at s.now))) }
+{
+    let mut bytes = [0; 8];
+    bytes.copy_from_slice(&s[at..at + 8]);
+    Integer::from(i64::from_le_bytes(bytes))
 }
 
 /// Stores bytes at a place of an output, however long that is, if they end within it, and tells where they end, as far as numbers go.

@@ -1,7 +1,7 @@
 // A value where it stands in its bytes.
 ghost use Rattle.std.specs.Prelude.{◌≤◌, ◌^◌, length};
 
-use crate::Scalar;
+use crate::{Scalar, integer_at};
 use item::{Encoded, Found, HEADER, Integer, Item, Kind, Part, header_at};
 
 /// A value in encoded bytes: its item, and the bytes in which that stands.
@@ -103,11 +103,10 @@ impl<'a> Node<'a> {
     {
         let Item { from, to, .. } = self.item;
         let is_integer = self.is(Kind::Int);
-        if !is_integer {
+        if !is_integer || to - from < 8 {
             return None;
         }
-        let bytes = self.bytes[from..to].first_chunk()?;
-        Some(Integer::from(i64::from_le_bytes(*bytes)))
+        Some(integer_at(self.bytes, from))
     }
 
     /// The scalar that it is, which has a text; null and collections have none.
