@@ -1,47 +1,48 @@
 -- `continue_on_error` and `expect`, by what their values are. Assumes nothing.
-use Rattle.std.proofs.Common.{◌≡◌, refl, sym, ap, ◌∙◌, ℕ, arith, Bool, true, false, eqb}
+use Rattle.std.proofs.Common.{◌≡◌, refl, sym, ap, ◌∙◌, ℕ, arith, Bool, true, false, eqb, List, get_or}
 use Rattle.std.specs.Prelude.{Option as Maybe, Some, None, MatchOption}
 use Rattle.std.proofs.Math.Option.{Option, none, some}
 use Rattle.std.proofs.lemmas.Bool.{eqb-true, eqb-false}
 use Rattle.refusal.specs.Base.{refused}
 use Rattle.item.specs.Tree.{Yaml, null, bool, int, str, seq, dict}
 use Rattle.item.specs.Encode.{kind_of}
+use Rattle.item.specs.Encode.{flag}
+use Rattle.item.specs.declared.Item.{Item}
+use Rattle.entries.specs.Entries.{content}
+use Rattle.entries.proofs.Standing.{stands-byte}
 use Rattle.entries.proofs.Values.{entries-of}
 use Rattle.nodes.specs.declared.node.Node.{Node}
-use Rattle.nodes.specs.declared.Scalar.{Scalar}
-use Rattle.nodes.specs.declared.Scalar.TheVariants as scalars
-use Rattle.nodes.specs.Contract.{IsNode, FoundNode, FindsNode, AgreesScalar}
-use Rattle.scalar.specs.Scalars.{key_text}
+use Rattle.nodes.specs.Contract.{IsItem, FoundNode, FindsNode}
 use Rattle.meaning.specs.Meanings.{expect_of, is_true}
 use Rattle.step.specs.Contract.{mapping, AgreesExpect}
 
--- whether a scalar is the boolean true
-abbrev pub truth_of : Maybe Scalar → Bool
-truth_of (Some (scalars.Bool b)) = b
-truth_of (Some (scalars.Int n)) = false
-truth_of (Some (scalars.Str t)) = false
-truth_of None = false
+flag-one : (n : ℕ) (b : Bool) → n ≡ flag b → eqb n 1 ≡ b
+unfolding flag
+flag-one n true e = rw e refl
+flag-one n false e = rw e refl
 
-scalar-true : (y : Yaml) (r : Maybe Scalar) → AgreesScalar y r → truth_of r ≡ is_true (some y)
-unfolding is_true key_text
-scalar-true y (Some (scalars.Bool b)) a = rw a refl
-scalar-true y (Some (scalars.Int n)) a = rw a refl
-scalar-true y (Some (scalars.Str t)) a = rw a refl
-scalar-true null None a = refl
-scalar-true (bool b) None a = absurd (let z : ◌≡◌ {A = ℕ} 0 1 = cc in omega arith)
-scalar-true (int z) None a = refl
-scalar-true (str t) None a = refl
-scalar-true (seq ys) None a = refl
-scalar-true (dict es) None a = refl
+-- of a boolean by its byte
+pub flag-true : {s : List ℕ} {item : Item} (y : Yaml) → item.kind ≡ 1 → IsItem s y item → eqb (get_or s item.from 0) 1 ≡ is_true (some y)
+unfolding is_true kind_of content
+flag-true null k i = absurd (omega (arith, i.kind_is))
+flag-true {s} {item} (bool b) k i = flag-one (get_or s item.from 0) b (stands-byte i.stands)
+flag-true (int z) k i = absurd (omega (arith, i.kind_is))
+flag-true (str t) k i = absurd (omega (arith, i.kind_is))
+flag-true (seq ys) k i = absurd (omega (arith, i.kind_is))
+flag-true (dict es) k i = absurd (omega (arith, i.kind_is))
 
-true-absent : {o : Option Yaml} → o ≡ none → false ≡ is_true o
+pub flag-other : {s : List ℕ} {item : Item} (y : Yaml) → IsItem s y item → (item.kind ≡ 1 → item.from ≡ item.to) → false ≡ is_true (some y)
+unfolding is_true kind_of content
+flag-other null i n = refl
+flag-other (bool b) i n = absurd (omega (arith, i.ends, n i.kind_is))
+flag-other (int z) i n = refl
+flag-other (str t) i n = refl
+flag-other (seq ys) i n = refl
+flag-other (dict es) i n = refl
+
+pub true-absent : {o : Option Yaml} → o ≡ none → false ≡ is_true o
 unfolding is_true
 true-absent e = rw e refl
-
-pub true-found : (o : Option Yaml) (v : Maybe Node) (r : Maybe Scalar) (Gives : Node → Type 0)
-    → MatchOption v (r ≡ None) Gives → ((x : Node) → Gives x → (y : Yaml) → IsNode y x → AgreesScalar y r) → FindsNode o v → truth_of r ≡ is_true o
-true-found o None r Gives m g f = rw m (true-absent f)
-true-found o (Some x) r Gives m g f = scalar-true f.value r (g x m f.value f.node_is) ∙ ap is_true (sym f.is)
 
 other-expect : (line n : ℕ) (y : Yaml) → (kind_of y ≡ 5 → ⊥) → expect_of line n (some y) ≡ refused 33 line n
 unfolding expect_of kind_of

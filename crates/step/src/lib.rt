@@ -15,9 +15,9 @@ ghost use Rattle.step.specs.Contract.{StepStands, AgreesStep, AgreesExpect, Agre
 mod parts;
 
 use entries::Pair;
-use item::{Found, Kind, Part};
+use item::{Found, Item, Kind, Part};
 use meaning::{StepField, is_built_in};
-use nodes::{Node, RecordWriter, Scalar};
+use nodes::{Node, RecordWriter};
 pub use parts::{StepFields, StepNodes};
 use refusal::Refusal;
 
@@ -146,16 +146,19 @@ pub fn read_step(node: Option<Node<'_>>, line: u32, number: u32) -> Result<StepN
     read_entries(entries, line, number)
 }
 
-// Whether a value is the boolean true. Each scalar has an arm: of a `_` the proof does not know which one it may be.
+// Whether a value is the boolean true. By its byte, since of a byte that no boolean has the text is `true` too.
 fn is_true(node: Option<Node<'_>>) -> bool
     ensures { (o : Option Yaml) → FindsNode o node.entry → result ≡ is_true o }
 {
-    match node.and_then(Node::scalar) {
-        Some(Scalar::Bool(value)) => value,
-        Some(Scalar::Int(_)) => false,
-        Some(Scalar::Str(_)) => false,
-        None => false,
+    let Some(node) = node else {
+        return false;
+    };
+    let Item { from, to, .. } = node.item;
+    let is_boolean = node.is(Kind::Bool);
+    if !is_boolean || from == to {
+        return false;
     }
+    node.bytes[from] == 1
 }
 
 // The item of a step.

@@ -1,7 +1,7 @@
 -- The walk along the defaults, and their item. Assumes nothing.
 use Rattle.std.specs.Prelude.{if◌then◌else◌, Option as Maybe, Some, None, Result, Ok, IfSome, IsSomeAnd}
 use Rattle.std.proofs.lemmas.Bool.{false≢true}
-use Rattle.std.proofs.Common.{Bor, length, ◌^◌, ◌≡◌, ◌≢◌, refl, sym, ap, ◌∙◌, ℕ, ◌+◌, ◌-◌, ◌≤◌, arith, eqb, ◌||◌, List, append-nil, Bool, true, false, take, drop}
+use Rattle.std.proofs.Common.{Bor, length, ◌^◌, ◌≡◌, ◌≢◌, refl, sym, ap, ◌∙◌, ℕ, ◌+◌, ◌-◌, ◌≤◌, arith, ltb, List, append-nil, Bool, true, false, take, drop}
 use Rattle.std.proofs.Math.Option.{Option, none, some}
 use Rattle.refusal.specs.Base.{Answer, good, refused, ◌>>=◌, maybe, bytes, same}
 use Rattle.item.specs.Tree.{Yaml, null, bool, int, str, seq, dict, Entries, pair, Ranged}
@@ -70,10 +70,10 @@ abbrev wall_with : DefaultKey → Node → Maybe Node → Maybe Node
 wall_with Timeout node wall_budget = wall_budget
 wall_with WallBudget node wall_budget = Some node
 
-abbrev collection : ℕ → Bool
-collection kind = eqb kind 4 || eqb kind 5
+abbrev above_str : ℕ → Bool
+above_str kind = ltb 3 kind
 
-scalar-good : (v : Yaml) → false ≡ collection (kind_of v) → scalar_default v ≡ good (key_text v)
+scalar-good : (v : Yaml) → false ≡ above_str (kind_of v) → scalar_default v ≡ good (key_text v)
 unfolding kind_of scalar_default key_text
 scalar-good null h = refl
 scalar-good (bool b) h = refl
@@ -82,7 +82,7 @@ scalar-good (str t) h = refl
 scalar-good (seq ys) h = absurd (false≢true h)
 scalar-good (dict es) h = absurd (false≢true h)
 
-scalar-bad : (v : Yaml) → true ≡ collection (kind_of v) → scalar_default v ≡ refuse 30
+scalar-bad : (v : Yaml) → true ≡ above_str (kind_of v) → scalar_default v ≡ refuse 30
 unfolding kind_of scalar_default
 scalar-bad null h = absurd (false≢true (sym h))
 scalar-bad (bool b) h = absurd (false≢true (sym h))
@@ -116,10 +116,10 @@ module _ {s : List ℕ} {to at : ℕ} {p : Pair} {es : Entries} {timeout wall_bu
       is = refl;
     }
 
-    by_kind : {c : Bool} → c ≡ collection node.item.kind → c ≡ collection (kind_of t.entry.v)
-    by_kind e = e ∙ ap collection i.item_is.kind_is
+    by_kind : {c : Bool} → c ≡ above_str node.item.kind → c ≡ above_str (kind_of t.entry.v)
+    by_kind e = e ∙ ap above_str i.item_is.kind_is
 
-    pub default-bad : true ≡ collection node.item.kind → defaults_from no_defaults es ≡ refused 30 0 0
+    pub default-bad : true ≡ above_str node.item.kind → defaults_from no_defaults es ≡ refused 30 0 0
     unfolding by_key ◌>>=◌
     default-bad h = here d ∙ go key
       where
@@ -127,7 +127,7 @@ module _ {s : List ℕ} {to at : ℕ} {p : Pair} {es : Entries} {timeout wall_bu
         go Timeout = rw (scalar-bad t.entry.v (by_kind h))
         go WallBudget = rw (scalar-bad t.entry.v (by_kind h))
 
-    pub default-on : false ≡ collection node.item.kind → DefaultsRest s to p.next es (timeout_with key node timeout) (wall_with key node wall_budget)
+    pub default-on : false ≡ above_str node.item.kind → DefaultsRest s to p.next es (timeout_with key node timeout) (wall_with key node wall_budget)
     unfolding by_key ◌>>=◌
     default-on h = go key (here d)
       where
@@ -168,13 +168,13 @@ module _ {all whole : Bor (List ℕ)} {from to : ℕ} {f : DefaultNodes} (old ne
   is-node : {y : Yaml} → Ranged y → Stands all.now p.end (encode y) → IsNode y node
   is-node {y} g st = rw there at (value y g (rw e st))
 
-  pub default-refused : true ≡ collection node.item.kind → (es : Entries) → Holds all.now from to es → defaults_from no_defaults es ≡ refused 30 0 0
+  pub default-refused : true ≡ above_str node.item.kind → (es : Entries) → Holds all.now from to es → defaults_from no_defaults es ≡ refused 30 0 0
   default-refused h es holds =
       let k = i.3 es holds in
       let t = turn k.rest w now.before now.is k.holds.lies in
       default-bad k t inside (rw there at place) (is-node (first-ranged t.entry k.holds.ranged) t.value) key d h
 
-  pub default-turned : {g : DefaultNodes} → false ≡ collection node.item.kind → g ≡ record { timeout = timeout_with key node f.timeout; wall_budget = wall_with key node f.wall_budget } → Walked all.now from to new g
+  pub default-turned : {g : DefaultNodes} → false ≡ above_str node.item.kind → g ≡ record { timeout = timeout_with key node f.timeout; wall_budget = wall_with key node f.wall_budget } → Walked all.now from to new g
   default-turned h after = rw after (
     now.bytes,
     now.end,

@@ -82,6 +82,13 @@ abbrev pub KnownKeys : Entries → Bool → Type 0
 KnownKeys es true = known_keys es ≡ good tt
 KnownKeys es false = known_keys es ≡ refused 22 0 0
 
+-- ---- 24, 25
+
+-- whether there is a scalar, by its text
+abbrev pub AgreesScalar : Option (List ℕ) → Bool → Type 0
+AgreesScalar t true = (u : List ℕ) × (t ≡ some u)
+AgreesScalar t false = t ≡ none
+
 -- ---- 21 to 24
 
 -- a tree whose entries 21 to 24 let pass

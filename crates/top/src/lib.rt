@@ -2,7 +2,7 @@
 // nothing, and writing refuses nothing.
 #![tactic(auto)]
 
-ghost use Rattle.std.specs.Prelude.{◌≡◌, ◌≢◌, ◌+◌, ◌-◌, ◌*◌, ◌≤◌, ◌^◌, ◌||◌, List, ℕ, Some, IfOk, IfSome, eqb, length};
+ghost use Rattle.std.specs.Prelude.{◌≡◌, ◌≢◌, ◌+◌, ◌-◌, ◌*◌, ◌≤◌, ◌^◌, List, ℕ, Some, IfOk, IfSome, length, nat_lt};
 ghost use Rattle.std.proofs.Math.Option.{Option};
 ghost use Rattle.refusal.specs.Base.{same};
 ghost use Rattle.utf8.specs.Part.{part as part_of};
@@ -12,12 +12,12 @@ ghost use Rattle.item.specs.Encode as items;
 ghost use Rattle.item.specs.Encode.{encode};
 ghost use Rattle.entries.specs.Entries.{Stands, HoldsIn};
 ghost use Rattle.nodes.specs.Writing.{GoesAtMost, Writes};
-ghost use Rattle.nodes.specs.Contract.{NodeOf, FindsNode, AgreesMapping, text_of};
+ghost use Rattle.nodes.specs.Contract.{NodeOf, FindsNode, AgreesMapping, scalar_text, text_of};
 ghost use Rattle.meaning.specs.Meaning as meaning;
 ghost use Rattle.meaning.specs.Record.{joined, tags_item, defaults_item};
 ghost use Rattle.meaning.specs.Meanings.{schema, Top, texts_of, no_defaults, defaults_from, defaults_of, top_of};
 ghost use Rattle.top.specs.Contract.{TopStands, AgreesTop, TopInside, DefaultsInside, top_fields};
-ghost use Rattle.top.specs.Contract.{no_null, KnownKeys, Passed, AgreesSequence, default_key, DefaultsStand, AgreesDefaults};
+ghost use Rattle.top.specs.Contract.{no_null, AgreesScalar, KnownKeys, Passed, AgreesSequence, default_key, DefaultsStand, AgreesDefaults};
 
 use entries::Pair;
 use item::{Encoded, Item, Kind, Part, same_bytes};
@@ -85,6 +85,16 @@ fn known_keys(part: Part<'_>) -> bool
     true
 }
 
+// Whether a value is a scalar, by its kind alone: in bytes that are no value a scalar may have no text.
+fn is_scalar(value: Option<Node<'_>>) -> bool
+    ensures { (o : Option Yaml) → FindsNode o value.entry → AgreesScalar (scalar_text o) result }
+{
+    let Some(value) = value else {
+        return false;
+    };
+    value.is(Kind::Bool) || value.is(Kind::Int) || value.is(Kind::Str)
+}
+
 // Only a string can be it: no text of a boolean or an integer is.
 #[tactic(auto, using(crate::proofs::Values::other_schema), unfolding(meaning::specs::Meanings::schema, refusal::specs::Base::bytes))]
 fn is_schema(scalar: Scalar<'_>) -> bool
@@ -101,10 +111,14 @@ fn sequence_of<'a>(part: Part<'a>, key: &[u8]) -> Option<Part<'a>>
     ensures bytes { IfSome result (λ items. items.bytes.now ≡ part.entry.bytes.now) }
     ensures items { (es : Entries) → HoldsIn part.entry es → AgreesSequence (get key.now es) result }
 {
-    match other_than_null(value_of(part, key)) {
-        Some(value) => value.sequence(),
-        None => Some(part.encoded().part(0, 0)),
+    let Some(value) = value_of(part, key) else {
+        return Some(part.encoded().part(0, 0));
+    };
+    // Its content, which is empty in every encoded value.
+    if value.is(Kind::Null) {
+        return Some(value.content());
     }
+    value.sequence()
 }
 
 impl DefaultKey {
@@ -124,10 +138,11 @@ impl DefaultKey {
     }
 }
 
-fn is_collection(value: Node<'_>) -> bool
-    ensures { result ≡ (eqb value.entry.item.kind 4 || eqb value.entry.item.kind 5) }
+// Whether its kind is above a string's, which no scalar's is: a collection, or in bytes that are no value a kind that no value has.
+fn is_above_str(value: Node<'_>) -> bool
+    ensures { result ≡ nat_lt 3 value.entry.item.kind }
 {
-    value.is(Kind::Seq) || value.is(Kind::Map)
+    value.item.kind > Kind::Str as usize
 }
 
 // Two locals: where the arms of a `match` write fields of one struct, the borrow checker does not cover the loop yet.
@@ -151,7 +166,7 @@ fn defaults_in(part: Part<'_>) -> Result<DefaultNodes<'_>, Refusal>
             DefaultKey::Timeout => timeout = Some(value),
             DefaultKey::WallBudget => wall_budget = Some(value),
         }
-        if is_collection(value) {
+        if is_above_str(value) {
             return Err(Refusal::DefaultNotScalar);
         }
     }
@@ -179,7 +194,9 @@ fn read_fields(part: Part<'_>) -> Result<TopNodes<'_>, Refusal>
         → AgreesTop (top_of y) result }
 {
     let name = value_of(part, b"name");
-    scalar_of(name).ok_or(Refusal::NoName)?;
+    if !is_scalar(name) {
+        return Err(Refusal::NoName);
+    }
     let tags = sequence_of(part, b"tags").ok_or(Refusal::TagsNotSequence)?;
     let fail_on = sequence_of(part, b"fail_on").ok_or(Refusal::FailOnNotSequence)?;
     let defaults = defaults_of(value_of(part, b"defaults"))?;
@@ -205,7 +222,12 @@ pub fn read_top(s: Encoded<'_>) -> Result<TopNodes<'_>, Refusal>
     if !known_keys(part) {
         return Err(Refusal::UnknownTopKey);
     }
-    let schema = scalar_of(value_of(part, b"schema")).ok_or(Refusal::NoSchema)?;
+    let schema = value_of(part, b"schema");
+    if !is_scalar(schema) {
+        return Err(Refusal::NoSchema);
+    }
+    // A scalar with no text is another schema.
+    let schema = scalar_of(schema).ok_or(Refusal::OtherSchema)?;
     if !is_schema(schema) {
         return Err(Refusal::OtherSchema);
     }
@@ -229,8 +251,9 @@ fn put_tags(part: Part<'_>, writer: &mut RecordWriter<'_>)
 {
     let header = writer.open();
     for item in part.walk::<Item>() {
+        // No header, then, since these are no items.
         let Ok(item) = item else {
-            break;
+            return;
         };
         let node = Node {
             bytes: part.bytes,

@@ -1,21 +1,23 @@
--- The boolean that a scalar may be. Assumes nothing.
+-- By the byte of a boolean. Assumes nothing.
 use Rattle.std.proofs.Common.{sym, ap, ◌∙◌}
-use Rattle.std.specs.Prelude.{Some}
-use Rattle.nodes.specs.declared.Scalar.{Scalar}
-use Rattle.step.proofs.Fields.{truth_of, true-found}
+use Rattle.std.proofs.lemmas.Bool.{eqb-true, eqb-false}
+use Rattle.meaning.specs.Meanings.{is_true}
+use Rattle.step.proofs.Fields.{flag-true, flag-other, true-absent}
+use Rattle.step.proofs.is_true.Goals.{then-not-is_boolean-via-then-not-is_boolean, then-not-is_boolean-via-else-not-is_boolean+then-from-to}
 use Rattle.step.proofs.is_true.Goals as goal
 
-pub returns-in-Some-Bool : goal.returns-in-Some-Bool
-returns-in-Some-Bool c = λ o f.
-    sym (ap truth_of c.in-Some-Bool.is ∙ ap (λ (x : Scalar). truth_of (Some x)) c.in-Some-Bool.field-0-is) ∙ true-found o _ _ _ c.and_then.ensures (λ x g. g.1) f
+pub returns-in_default : goal.returns-in_default
+returns-in_default c = λ o f. true-absent (rw c.in_default.is at f)
 
-pub returns-in-Some-Int : goal.returns-in-Some-Int
-returns-in-Some-Int c = λ o f.
-    sym (ap truth_of c.in-Some-Int.is ∙ ap (λ (x : Scalar). truth_of (Some x)) c.in-Some-Int.field-0-is) ∙ true-found o _ _ _ c.and_then.ensures (λ x g. g.1) f
+pub returns-then-not-is_boolean : goal.returns-then-not-is_boolean
+returns-then-not-is_boolean c = λ o f.
+    let found = rw c.in-Some.is at f in
+    flag-other found.value found.node_is.item_is (elim c.then-not-is_boolean.branch [
+      | then-not-is_boolean-via-then-not-is_boolean w ↦ λ k. absurd (eqb-false _ _ (sym c.is-is_boolean.ensures ∙ w.if-not-is_boolean.true) k)
+      | then-not-is_boolean-via-else-not-is_boolean+then-from-to w ↦ λ k. w.if-from-to.true
+    ]) ∙ ap is_true (sym found.is)
 
-pub returns-in-Some-Str : goal.returns-in-Some-Str
-returns-in-Some-Str c = λ o f.
-    sym (ap truth_of c.in-Some-Str.is ∙ ap (λ (x : Scalar). truth_of (Some x)) c.in-Some-Str.field-0-is) ∙ true-found o _ _ _ c.and_then.ensures (λ x g. g.1) f
-
-pub returns-in-None : goal.returns-in-None
-returns-in-None c = λ o f. sym (ap truth_of c.in-None.is) ∙ true-found o _ _ _ c.and_then.ensures (λ x g. g.1) f
+pub returns : goal.returns
+returns c = λ o f.
+    let found = rw c.in-Some.is at f in
+    flag-true found.value (eqb-true _ _ (sym c.is-is_boolean.ensures ∙ c.if-not-is_boolean.false)) found.node_is.item_is ∙ ap is_true (sym found.is)

@@ -34,15 +34,15 @@ returns-in_err-value-clause-defaults c = λ es h.
     let l = lost c.in_err-value.ensures.value in
     absurd (rw l.0 at (c.at.ensures.value e.entry.v (first-ranged e.entry k.holds.ranged) (rw c.encoded-s.ensures e.value)))
 
-pub returns-then-is_collection-clause-defaults : goal.returns-then-is_collection-clause-defaults
-returns-then-is_collection-clause-defaults c =
+pub returns-then-is_above_str-clause-defaults : goal.returns-then-is_above_str-clause-defaults
+returns-then-is_above_str-clause-defaults c =
     default-refused _ _ (search rules) c.loop-pair.invariant c.in-Some.ensures.steps c.in-Ok.is c.encoded-s.ensures c.in_ok-value.ensures.ok_part c.at.ensures.bytes c.at.ensures.place c.at.ensures.value
-    _ (sym c.in_ok-key.ensures.ok_part ∙ c.of.ensures) (sym c.if-is_collection.true ∙ c.is_collection.ensures)
+    _ (sym c.in_ok-key.ensures.ok_part ∙ c.of.ensures) (sym c.if-is_above_str.true ∙ c.is_above_str.ensures)
 
 pub loop-pair-preserved : goal.loop-pair-preserved
 loop-pair-preserved c =
     default-turned _ _ (search rules) c.loop-pair.invariant c.in-Some.ensures.steps c.in-Ok.is c.encoded-s.ensures c.in_ok-value.ensures.ok_part c.at.ensures.bytes c.at.ensures.place c.at.ensures.value
-    _ (sym c.in_ok-key.ensures.ok_part ∙ c.of.ensures) (sym c.if-is_collection.false ∙ c.is_collection.ensures)
+    _ (sym c.in_ok-key.ensures.ok_part ∙ c.of.ensures) (sym c.if-is_above_str.false ∙ c.is_above_str.ensures)
     (elim c.match-key.branch [
       | in-Timeout w ↦ rw (w.in-Timeout.is, w.timeout-is, w.wall_budget-is) refl
       | in-WallBudget w ↦ rw (w.in-WallBudget.is, w.timeout-is, w.wall_budget-is) refl

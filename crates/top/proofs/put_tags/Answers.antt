@@ -4,7 +4,6 @@ use Rattle.nodes.proofs.Items.{item_turn, no_item_here}
 use Rattle.nodes.proofs.Writing.{most_more, item_most, most_less}
 use Rattle.nodes.proofs.Texts.{told}
 use Rattle.top.proofs.Tags.{tag-on, no-tag-on, tags-done}
-use Rattle.top.proofs.put_tags.Goals.{in-None, in-Some+in_default}
 use Rattle.top.proofs.put_tags.Goals as goal
 
 pub invariant_of-node : goal.invariant_of-node
@@ -41,11 +40,13 @@ loop-item-preserved c =
           rw t.next (no-tag-on k e (c.in_default-scalar.ensures.value e.first.y (record { ranged = e.first.ranged; item_is = e.item_is }))),
     )
 
+pub returns-in_default-clause-tags : goal.returns-in_default-clause-tags
+returns-in_default-clause-tags c = λ ys h.
+    let i = c.loop-item.invariant in
+    let k = i.4 ys h in
+    no_item_here k.rest (search rules) k.holds (stop _ _ i.0 i.1 c.in-Some.ensures.steps c.in_default.is)
+
 pub returns-clause-tags : goal.returns-clause-tags
 returns-clause-tags c = λ ys h.
     let i = c.loop-item.invariant in
-    let k = i.4 ys h in
-    elim c.match-next.branch [
-      | in-None w ↦ tags-done (omega (arith, i.1, w.in-None.ensures.steps.0)) c.open-header.ensures k c.close.ensures
-      | in-Some+in_default w ↦ no_item_here k.rest (search rules) k.holds (stop _ _ i.0 i.1 w.in-Some.ensures.steps w.in_default.is)
-    ]
+    tags-done (omega (arith, i.1, c.in-None.ensures.steps.0)) c.open-header.ensures (i.4 ys h) c.close.ensures
