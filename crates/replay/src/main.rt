@@ -20,11 +20,11 @@ use crate::section::{Question, Section, next_section};
 use crate::stream::{MANY, each_text};
 use console::Lent;
 use item::LIMIT;
-use std::alloc::Global;
+use std::alloc::{AllocError, Global};
 use std::io;
-use std::io::{BufReader, BufWriter, Read, Write};
+use std::io::{BufReader, LineWriter, Read, Write};
 
-// What is made once and lent again for each text.
+// What is lent again for each text. Only the text has its room from the beginning.
 #[derive(Drop)]
 struct Buffers {
     text: Vec<u8>,
@@ -36,10 +36,17 @@ impl Buffers {
     fn new(alloc: Global) -> io::Result<Buffers> {
         Ok(Buffers {
             text: vec![in alloc; 0u8; 1048640]?,
-            names: vec![in alloc; 0u8; 65536]?,
-            lent: Lent::new(alloc, LIMIT, 262144)?,
+            names: Vec::new(alloc),
+            lent: Lent::new(alloc, 0, 0)?,
         })
     }
+}
+
+// As much as a scenario can need.
+fn make_room(lent: &mut Lent) -> Result<(), AllocError> {
+    lent.work.resize_with(LIMIT, || 0)?;
+    lent.record.resize_with(LIMIT, || 0)?;
+    lent.lines.resize_with(262144, || 0)
 }
 
 fn answer(
@@ -53,9 +60,13 @@ fn answer(
         Question::Same { size } => items::print_same(out, text, size)?,
         Question::Lines => line_entries::print_lines(out, text)?,
         Question::Value => values::print_line(out, text)?,
-        Question::Tree => trees::print_tree(out, text, &mut lent.work)?,
+        Question::Tree => {
+            lent.work.resize_with(LIMIT, || 0)?;
+            trees::print_tree(out, text, &mut lent.work)?;
+        }
         Question::LeastWork => trees::print_least(out, text)?,
         Question::Scenario { room, shown } => {
+            make_room(lent)?;
             scenarios::print_scenario(out, text, room, shown, lent)?;
         }
         Question::Record => records::print_record(out, text)?,
@@ -64,6 +75,7 @@ fn answer(
         Question::Shares => shares::print_shares(out, text)?,
         Question::Logs => logs::print_logs(out, text)?,
         Question::Panel => records::print_checked(out, text)?,
+        Question::Nothing => {}
     }
     writeln!(out)
 }
@@ -79,7 +91,11 @@ fn replay_section(
         Section::Items => items::print_items(out),
         Section::LongRecord { from, end } => records::print_long(out, input, text, from, end),
         Section::Parts => records::print_parts(out),
-        Section::ScenarioChecks => steps::print_scenarios(out, input, text, names, lent),
+        Section::ScenarioChecks => {
+            names.resize_with(65536, || 0)?;
+            make_room(lent)?;
+            steps::print_scenarios(out, input, text, names, lent)
+        }
         Section::Texts(question) => {
             each_text(input, text, |text| answer(out, question, text, lent))
         }
@@ -89,7 +105,8 @@ fn replay_section(
 fn main(rt: HostRuntime) -> io::Result<()> {
     let mut buffers = Buffers::new(rt.alloc())?;
     let mut input = BufReader::new(rt.alloc(), rt.reader())?;
-    let mut out = BufWriter::new(rt.alloc(), io::writer(&rt))?;
+    // Line by line, so that whoever sends texts one by one has each answer before the next.
+    let mut out = LineWriter::new(rt.alloc(), io::writer(&rt))?;
     // No `while let`, here and for texts: a stream does not tell how long it is, and a loop must be seen to end.
     for _ in 0..MANY {
         let Some(section) = next_section(&mut input)? else {

@@ -57,7 +57,8 @@ pub(crate) fn print_checked(out: &mut impl Write, bytes: &[u8]) -> io::Result<()
     print_panel(out, bytes)
 }
 
-// A record with zeros in it, so that one at the limit need not be stored: a text at the front, and one from a place on.
+// A record with zeros in it, so that one at the limit need not be stored: a text at the front, and one from a place on. Of a place behind
+// the buffer nothing is asked.
 pub(crate) fn print_long(
     out: &mut impl Write,
     input: &mut impl Read,
@@ -65,11 +66,12 @@ pub(crate) fn print_long(
     from: usize,
     end: usize,
 ) -> io::Result<()> {
+    if from > buffer.len() {
+        return Ok(());
+    }
     buffer.fill(0);
     next_text(input, buffer)?;
-    if let Some(rest) = buffer.get_mut(from..) {
-        next_text(input, rest)?;
-    }
+    next_text(input, &mut buffer[from..])?;
     print_record(out, part(buffer, 0, end))?;
     writeln!(out)
 }

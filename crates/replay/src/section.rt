@@ -1,7 +1,7 @@
 // A section of the stream: its kind, three numbers, its texts, and a number that ends it.
-use crate::stream::{put_numbers, read_full};
+use crate::stream::next_number;
 use std::io;
-use std::io::{ErrorKind, Read};
+use std::io::Read;
 
 // How much is lent for a scenario: bytes of work and of record, and line places.
 #[derive(Clone, Copy)]
@@ -54,6 +54,8 @@ pub(crate) enum Question {
     Logs,
     // What the check of a record answers, and what a panel shows of it.
     Panel,
+    // Nothing, where there is no such kind.
+    Nothing,
 }
 
 #[derive(Clone, Copy)]
@@ -79,11 +81,9 @@ fn place(number: u32) -> usize {
     }
 }
 
-impl TryFrom<[u32; 4]> for Section {
-    type Error = io::Error;
-
+impl From<[u32; 4]> for Section {
     // Of the kind and its three numbers.
-    fn try_from(numbers: [u32; 4]) -> io::Result<Section> {
+    fn from(numbers: [u32; 4]) -> Section {
         let [kind, first, second, third] = numbers;
         let room = Room {
             work: first as usize,
@@ -91,7 +91,7 @@ impl TryFrom<[u32; 4]> for Section {
             lines: third as usize,
         };
         let question = match kind {
-            0 => return Ok(Section::Items),
+            0 => return Section::Items,
             1 => Question::Header { at: place(first) },
             2 => Question::Same {
                 size: first as usize,
@@ -114,31 +114,29 @@ impl TryFrom<[u32; 4]> for Section {
             },
             10 => Question::Record,
             11 => {
-                return Ok(Section::LongRecord {
+                return Section::LongRecord {
                     from: first as usize,
                     end: second as usize,
-                });
+                };
             }
-            12 => return Ok(Section::Parts),
-            13 => return Ok(Section::ScenarioChecks),
+            12 => return Section::Parts,
+            13 => return Section::ScenarioChecks,
             14 => Question::RecordCheck,
             15 => Question::Lookups,
             16 => Question::Shares,
             17 => Question::Logs,
             18 => Question::Panel,
-            _ => return Err(io::Error::from(ErrorKind::InvalidData)),
+            _ => Question::Nothing,
         };
-        Ok(Section::Texts(question))
+        Section::Texts(question)
     }
 }
 
-// None where the stream ends.
+// None where the stream ends, or where the largest number stands for a kind. A head that is cut off has the largest numbers behind.
 pub(crate) fn next_section(input: &mut impl Read) -> io::Result<Option<Section>> {
-    let mut head = [0u8; 16];
-    if !read_full(input, &mut head)? {
-        return Ok(None);
-    }
-    let mut numbers = [0u32; 4];
-    put_numbers(&head, 0, &mut numbers);
-    Section::try_from(numbers).map(Some)
+    let kind = next_number(input)?;
+    let first = next_number(input)?;
+    let second = next_number(input)?;
+    let third = next_number(input)?;
+    Ok((kind != u32::MAX).then_some(Section::from([kind, first, second, third])))
 }

@@ -22,12 +22,21 @@ pub(crate) fn put_numbers(text: &[u8], from: usize, numbers: &mut [u32]) {
 }
 
 // Whether there are as many bytes as places.
-pub(crate) fn read_full(input: &mut impl Read, bytes: &mut [u8]) -> io::Result<bool> {
+fn read_full(input: &mut impl Read, bytes: &mut [u8]) -> io::Result<bool> {
     match input.read_exact(bytes) {
         Ok(()) => Ok(true),
         Err(e) if e.kind() == ErrorKind::UnexpectedEof => Ok(false),
         Err(e) => Err(e),
     }
+}
+
+// The next number; where the stream ends the largest, which ends a section too.
+pub(crate) fn next_number(input: &mut impl Read) -> io::Result<u32> {
+    let mut bytes = [0u8; 4];
+    if !read_full(input, &mut bytes)? {
+        return Ok(u32::MAX);
+    }
+    Ok(u32::from_le_bytes(bytes))
 }
 
 // The next text, at the front of the buffer; none where the section or the stream ends, or where the text is too long for the buffer.
@@ -36,11 +45,8 @@ pub(crate) fn next_text<'a>(
     input: &mut impl Read,
     buffer: &'a mut [u8],
 ) -> io::Result<Option<&'a [u8]>> {
-    let mut size = [0u8; 4];
-    if !read_full(input, &mut size)? {
-        return Ok(None);
-    }
-    let Some(text) = buffer.get_mut(..u32::from_le_bytes(size) as usize) else {
+    let size = next_number(input)? as usize;
+    let Some(text) = buffer.get_mut(..size) else {
         return Ok(None);
     };
     if !read_full(input, text)? {
