@@ -9,7 +9,7 @@ use item::{HEADER, Item, Items, Kind, LIMIT};
 use record::{RecordAnswer, check_record, part};
 use std::io;
 use std::io::{BufWriter, Write};
-use written::{Name, Quoted, Value};
+use written::{Name, print_content, print_quoted};
 
 // More levels than a record has.
 const DEEPEST: usize = 40;
@@ -28,7 +28,8 @@ fn print_value(out: &mut impl Write, bytes: &[u8], item: Item, depth: usize) -> 
         return Ok(());
     };
     let content = part(bytes, item.from, item.to);
-    writeln!(out, "{}", Value { kind, content })?;
+    print_content(out, kind, content)?;
+    writeln!(out)?;
     match kind {
         Kind::Null | Kind::Bool | Kind::Int | Kind::Str => Ok(()),
         _ if depth >= DEEPEST => Ok(()),
@@ -43,7 +44,8 @@ fn print_entries(out: &mut impl Write, content: &[u8], depth: usize) -> io::Resu
     let mut walk = Items::new(content);
     while let (Some(Ok(key)), Some(Ok(item))) = (walk.next(), walk.next()) {
         print_indent(out, depth)?;
-        write!(out, "{}:", Quoted(part(content, key.from, key.to)))?;
+        print_quoted(out, part(content, key.from, key.to))?;
+        write!(out, ":")?;
         print_value(out, content, item, depth)?;
     }
     Ok(())

@@ -1,7 +1,9 @@
 // Items for people: what names them, and what is in them. Integers stand in decimal, texts in quotes with what a terminal would act on
 // escaped.
 use item::Kind;
-use std::fmt;
+use record::part;
+use std::io::Write;
+use std::{fmt, io};
 
 const FIELDS: [&str; 8] = [
     "name",
@@ -49,31 +51,37 @@ impl fmt::Display for Name {
     }
 }
 
-// A text of a record, which is UTF-8.
-fn text(content: &[u8]) -> &str {
-    str::from_utf8(content).unwrap_or_default()
+// Whether a terminal or a reader would take a byte for something else.
+fn is_escaped(byte: u8) -> bool {
+    byte < b' ' || matches!(byte, b'\x7f' | b'"' | b'\\')
 }
 
-// A text in quotes.
-#[derive(Clone, Copy)]
-pub(crate) struct Quoted<'a>(pub(crate) &'a [u8]);
-
-impl fmt::Display for Quoted<'_> {
-    fn fmt<W: fmt::Write>(&self, f: &mut fmt::Formatter<W>) -> fmt::Result {
-        write!(f, "\"")?;
-        for character in text(self.0).chars() {
-            match character {
-                '\n' => write!(f, "\\n")?,
-                '\t' => write!(f, "\\t")?,
-                '\r' => write!(f, "\\r")?,
-                '"' => write!(f, "\\\"")?,
-                '\\' => write!(f, "\\\\")?,
-                '\0'..' ' | '\x7f' => write!(f, "\\x{:02x}", character as u32)?,
-                _ => write!(f, "{character}")?,
-            }
-        }
-        write!(f, "\"")
+fn print_escape(out: &mut impl Write, byte: u8) -> io::Result<()> {
+    match byte {
+        b'\n' => out.write_all(b"\\n"),
+        b'\t' => out.write_all(b"\\t"),
+        b'\r' => out.write_all(b"\\r"),
+        b'"' => out.write_all(b"\\\""),
+        b'\\' => out.write_all(b"\\\\"),
+        _ => write!(out, "\\x{byte:02x}"),
     }
+}
+
+// A text in quotes. What stands for itself is written in one piece, since a long text has few escapes.
+pub(crate) fn print_quoted(out: &mut impl Write, text: &[u8]) -> io::Result<()> {
+    let mut piece = 0;
+    out.write_all(b"\"")?;
+    for (place, &byte) in text.iter().enumerate() {
+        if is_escaped(byte) {
+            if piece < place {
+                out.write_all(part(text, piece, place))?;
+            }
+            print_escape(out, byte)?;
+            piece = place + 1;
+        }
+    }
+    out.write_all(part(text, piece, text.len()))?;
+    out.write_all(b"\"")
 }
 
 // The two's complement of eight bytes, the lowest first.
@@ -84,23 +92,18 @@ fn integer(content: &[u8]) -> i64 {
 }
 
 // What stands behind the name: a scalar, or of what holds items only whether it is empty.
-#[derive(Clone, Copy)]
-pub(crate) struct Value<'a> {
-    pub(crate) kind: Kind,
-    pub(crate) content: &'a [u8],
-}
-
-impl fmt::Display for Value<'_> {
-    fn fmt<W: fmt::Write>(&self, f: &mut fmt::Formatter<W>) -> fmt::Result {
-        match self.kind {
-            Kind::Null => write!(f, " null"),
-            Kind::Bool => write!(f, " {}", matches!(self.content, [1, ..])),
-            Kind::Int => write!(f, " {}", integer(self.content)),
-            Kind::Str => write!(f, " {}", Quoted(self.content)),
-            _ if !self.content.is_empty() => Ok(()),
-            Kind::Seq => write!(f, " []"),
-            Kind::Map => write!(f, " {{}}"),
-            _ => write!(f, " none"),
+pub(crate) fn print_content(out: &mut impl Write, kind: Kind, content: &[u8]) -> io::Result<()> {
+    match kind {
+        Kind::Null => write!(out, " null"),
+        Kind::Bool => write!(out, " {}", matches!(content, [1, ..])),
+        Kind::Int => write!(out, " {}", integer(content)),
+        Kind::Str => {
+            out.write_all(b" ")?;
+            print_quoted(out, content)
         }
+        _ if !content.is_empty() => Ok(()),
+        Kind::Seq => write!(out, " []"),
+        Kind::Map => write!(out, " {{}}"),
+        _ => write!(out, " none"),
     }
 }
