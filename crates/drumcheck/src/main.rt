@@ -33,7 +33,13 @@ fn print_ok(rt: &impl Print, path: &str, steps: usize) -> io::Result<()> {
     println!(rt; "{path}: ok, {steps} {noun}")
 }
 
-fn check_text(rt: &impl Print, path: &str, text: &[u8], lent: &mut Lent) -> io::Result<()> {
+fn check_text<R: AllocGlobal + Print>(
+    rt: &R,
+    path: &str,
+    text: &[u8],
+    lent: &mut Option<Lent>,
+) -> io::Result<()> {
+    let lent = lent.get_or_try_insert_with(|| Lent::new(rt.alloc(), ROOM, PLACES))?;
     match read_scenario(text, &mut lent.work, &mut lent.record, &mut lent.lines) {
         ScenarioAnswer::Read { steps, .. } => print_ok(rt, path, steps),
         ScenarioAnswer::Refused(e) => print_refusal(rt, path, e),
@@ -47,7 +53,7 @@ fn read_file<R: Files + AllocGlobal>(rt: &R, path: &str) -> io::Result<Vec<u8>> 
 fn check_file<R: Files + AllocGlobal + Print + Eprint>(
     rt: &R,
     path: &str,
-    lent: &mut Lent,
+    lent: &mut Option<Lent>,
 ) -> io::Result<()> {
     match read_file(rt, path) {
         Ok(text) => check_text(rt, path, &text, lent),
@@ -59,7 +65,7 @@ fn check_file<R: Files + AllocGlobal + Print + Eprint>(
 fn check_path<R: Files + AllocGlobal + Print + Eprint>(
     rt: &R,
     path: &[u8],
-    lent: &mut Lent,
+    lent: &mut Option<Lent>,
 ) -> io::Result<()> {
     match str::from_utf8(path) {
         Ok(name) => check_file(rt, name, lent),
@@ -71,8 +77,9 @@ fn check_path<R: Files + AllocGlobal + Print + Eprint>(
 }
 
 fn main(rt: HostRuntime) -> io::Result<()> {
-    let mut path = [0u8; 4096];
-    let mut lent = Lent::new(rt.alloc(), ROOM, PLACES)?;
+    let mut path = vec![in rt.alloc(); 0u8; 4096]?;
+    // Lent from the first file on that can be read.
+    let mut lent = None;
     // Argument by argument, and not by `env::args`, whose items are text: a name that is not is told.
     for i in 1..usize::MAX {
         match rt.arg(i, &mut path) {

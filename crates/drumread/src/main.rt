@@ -37,8 +37,8 @@ fn print_read(rt: &impl Print, record: &[u8], tree_bytes: usize, lines: &[u32]) 
 }
 
 fn main(rt: HostRuntime) -> io::Result<()> {
-    let text = read_at_most(rt.alloc(), rt.reader(), TEXT)?;
     let mut lent = Lent::new(rt.alloc(), ROOM, PLACES)?;
+    let text = read_at_most(rt.alloc(), rt.reader(), TEXT)?;
     // Handed on one by one, here and in the other programs: a method of `Lent` would state again what `read_scenario` promises of each, and
     // have drumshow stand on the reader.
     match read_scenario(&text, &mut lent.work, &mut lent.record, &mut lent.lines) {

@@ -9,8 +9,8 @@ use std::io;
 use std::io::Write;
 
 fn main(rt: HostRuntime) -> io::Result<()> {
-    let text = read_at_most(rt.alloc(), rt.reader(), TEXT)?;
     let mut lent = Lent::new(rt.alloc(), ROOM, PLACES)?;
+    let text = read_at_most(rt.alloc(), rt.reader(), TEXT)?;
     match read_scenario(&text, &mut lent.work, &mut lent.record, &mut lent.lines) {
         ScenarioAnswer::Read { record_bytes, .. } => {
             io::writer(&rt).write_all(&lent.record[..record_bytes])
