@@ -1,6 +1,7 @@
 -- Laws of quoted strings: what stands at a place, and what is passed up to it. Assumes nothing.
 use Rattle.std.specs.Prelude.{Result, Ok, Err, Option as Chance, Some, None, ok_or}
-use Rattle.std.proofs.Common.{◌≡◌, refl, sym, ap, ◌∙◌, ℕ, suc, ◌+◌, ◌≤◌, ◌<◌, add-one, arith, List, [], ◌∷◌, ◌++◌, true, false, length, take, drop, get_or, drop_of_length-le, length-append, drop-cons, take-suc, eq-eqb, ne_eqb}
+use Rattle.std.proofs.Common.{◌≡◌, refl, sym, ap, ◌∙◌, ℕ, suc, ◌+◌, ◌≤◌, ◌<◌, add-one, arith, List, [], ◌∷◌, ◌++◌, true, false, length, take, drop, get_or, drop_of_length-le, length-append, drop-cons, set, take-suc, eq-eqb, ne_eqb}
+use Rattle.std.proofs.lemmas.List.{take_more_set}
 use Rattle.std.proofs.Math.Option.{Option, none, some}
 use Rattle.refusal.specs.Base.{good, refused, ◌>>=◌, ch}
 use Rattle.refusal.specs.Told.{refusal}
@@ -11,7 +12,6 @@ use Rattle.item.specs.Encode.{item}
 use Rattle.scalar.specs.declared.Role.{Role}
 use Rattle.writer.specs.declared.Writer.{Writer}
 use Rattle.writer.specs.Writing.{cap_of, Appends, Lacks}
-use Rattle.writer.proofs.Laws.{appends_more}
 use Rattle.scalar.specs.declared.quoted_text.Piece.{Piece}
 use Rattle.scalar.specs.declared.quoted_text.Piece.TheVariants.{Byte, Shut}
 use Rattle.scalar.specs.Read.{escape, stop, scalar, onto_good, double_quoted, single_quoted, string}
@@ -35,11 +35,9 @@ stands_behind f g cap line s i e (Ok (Byte b n)) (p, h, k) = (e ∙ p, omega ari
 stands_behind f g cap line s i e (Ok (Shut n)) (p, h) = (e ∙ p, h)
 stands_behind f g cap line s i e (Err x) p = e ∙ p
 
--- a byte is put behind those before it
-pub put_more : {a b c : Writer} (t : List ℕ) (k x : ℕ) → Appends a b (take k t) → Appends b c (x ∷ []) → k < length t → x ≡ get_or t k 0 → Appends a c (take (k + 1) t)
-put_more {a} {b} {c} t k x p q h e =
-    let d : take k t ++ (x ∷ []) ≡ take (k + 1) t = rw (add-one, take-suc t k 0 h, e) in
-    rw (← d) (appends_more p q)
+-- a byte is stored behind those before it
+pub one_more : (out t : List ℕ) (k x : ℕ) → k < length out → k < length t → take k out ≡ take k t → x ≡ get_or t k 0 → take (k + 1) (set out k x) ≡ take (k + 1) t
+one_more out t k x m h p e = take_more_set out k x m ∙ rw (p, add-one, take-suc t k 0 h, e)
 
 module _ (cap line : ℕ) where
   -- ---- what stands at a place

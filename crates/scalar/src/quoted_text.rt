@@ -127,24 +127,34 @@ fn span_of(string: InQuotes<'_>) -> Result<Span, Refusal>
     }
 }
 
-// The string's bytes, of which there are `size`. A `match`: behind a `let .. else` it is not known that what is no byte is the closing quote,
-// and the proof did not close.
-fn put_bytes(string: InQuotes<'_>, size: usize, writer: &mut Writer<'_>)
-    requires { size ≤ room_of writer.old }
+// The string's bytes, which fill `out`. A `match`: behind a `let .. else` it is not known that what is no byte is the closing quote, and the
+// proof did not close.
+fn unquote(string: InQuotes<'_>, out: &mut [u8])
     ensures { (cap : ℕ) (t rest : List ℕ) → quoted_of string.entry.quote cap string.entry.line (drop string.entry.from string.entry.s.now)
-        ≡ good (t, rest) → length t ≡ size → Appends writer.old writer.new t }
+        ≡ good (t, rest) → length t ≡ length out.old → out.new ≡ t }
 {
     let mut place = string.from;
-    for _ in 0..size {
+    for slot in out.iter_mut() {
         match piece_at(string, place) {
             Ok(Piece::Byte { byte, next }) => {
-                writer.push(byte);
+                *slot = byte;
                 place = next;
             }
             Ok(Piece::Shut { next: _ }) => return,
             Err(_) => return,
         }
     }
+}
+
+// The string's bytes, of which there are `size`, behind those that are used.
+fn put_bytes(string: InQuotes<'_>, size: usize, writer: &mut Writer<'_>)
+    requires { size ≤ room_of writer.old }
+    ensures { (cap : ℕ) (t rest : List ℕ) → quoted_of string.entry.quote cap string.entry.line (drop string.entry.from string.entry.s.now)
+        ≡ good (t, rest) → length t ≡ size → Appends writer.old writer.new t }
+{
+    let at = writer.used;
+    unquote(string, &mut writer.out[at..at + size]);
+    writer.used = at + size;
 }
 
 // The same bytes of a string whose closing quote stands before `next`: where each takes one place, none is escaped.
