@@ -5,8 +5,7 @@ use Rattle.std.proofs.Math.Option.{Option, none, some}
 use Rattle.std.proofs.lemmas.Bool.{eqb-true, eqb-false}
 use Rattle.refusal.specs.Base.{refused}
 use Rattle.item.specs.Tree.{Yaml, null, bool, int, str, seq, dict}
-use Rattle.item.specs.Encode.{kind_of}
-use Rattle.item.specs.Encode.{flag}
+use Rattle.item.specs.Encode.{kind_of, flag}
 use Rattle.item.specs.declared.Item.{Item}
 use Rattle.entries.specs.Entries.{content}
 use Rattle.entries.proofs.Standing.{stands-byte}

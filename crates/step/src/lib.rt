@@ -153,12 +153,11 @@ fn is_true(node: Option<Node<'_>>) -> bool
     let Some(node) = node else {
         return false;
     };
-    let Item { from, to, .. } = node.item;
-    let is_boolean = node.is(Kind::Bool);
-    if !is_boolean || from == to {
+    if !node.is(Kind::Bool) {
         return false;
     }
-    node.bytes[from] == 1
+    let Item { from, to, .. } = node.item;
+    from < to && node.bytes[from] == 1
 }
 
 // The item of a step.
