@@ -31,7 +31,7 @@ escaped_ok (some a) r d b p q = let k : Ok b ≡ ok_or (Some a) d = rw p at q in
 -- what stands behind a byte that says nothing itself
 pub stands_behind : (f g : List ℕ → Content) (cap line : ℕ) (s : List ℕ) (i : ℕ) → g (drop i s) ≡ f (drop (i + 1) s) → (r : Result Piece Refusal)
     → ReadsPiece f g cap line s (i + 1) r → ReadsPiece g g cap line s i r
-stands_behind f g cap line s i e (Ok (Byte b n)) (p, h, k) = (e ∙ p, omega arith, k)
+stands_behind f g cap line s i e (Ok (Byte b)) (p, h, k) = (e ∙ p, omega arith, k)
 stands_behind f g cap line s i e (Ok (Shut n)) (p, h) = (e ∙ p, h)
 stands_behind f g cap line s i e (Err x) p = e ∙ p
 

@@ -64,7 +64,7 @@ Content = Answer (List ℕ × List ℕ)
 
 -- what stands at `i`, of a string that is read by `f`, and behind its first byte by `g`
 abbrev pub ReadsPiece : (List ℕ → Content) → (List ℕ → Content) → ℕ → ℕ → List ℕ → ℕ → Result Piece Refusal → Type 0
-ReadsPiece f g cap line s i (Ok (Byte b n)) = (f (drop i s) ≡ onto_good cap line b (g (drop n s))) × (i < n) × (n ≤ length s)
+ReadsPiece f g cap line s i (Ok (Byte b)) = (f (drop i s) ≡ onto_good cap line b.byte (g (drop b.next s))) × (i < b.next) × (b.next ≤ length s)
 ReadsPiece f g cap line s i (Ok (Shut n)) = (f (drop i s) ≡ good ([], drop n s)) × (n ≤ length s)
 ReadsPiece f g cap line s i (Err e) = f (drop i s) ≡ refusal e
 

@@ -13,10 +13,18 @@ use item::Kind;
 use refusal::Refusal;
 use writer::Writer;
 
-// What stands at a place in quotes: a byte of the string, which runs up to `next`, or the closing quote, which stands before `next`.
+// A byte of a string in quotes, and where what stands for it ends. A type of its own: as fields of `Piece` the byte and the case would share
+// a word, and each byte of a string would be taken out of it.
+#[derive(Clone, Copy)]
+struct StringByte {
+    byte: u8,
+    next: usize,
+}
+
+// What stands at a place in quotes: a byte of the string, or the closing quote, which stands before `next`.
 #[derive(Clone, Copy)]
 enum Piece {
-    Byte { byte: u8, next: usize },
+    Byte(StringByte),
     Shut { next: usize },
 }
 
@@ -62,7 +70,7 @@ fn escape_piece(s: &[u8], i: usize, line: u32) -> Result<Piece, Refusal>
 {
     let &escape = s.get(i).ok_or(Refusal::EscapeCut { line })?;
     let byte = unescaped(escape).ok_or(Refusal::UnknownEscape { line })?;
-    Ok(Piece::Byte { byte, next: i + 1 })
+    Ok(Piece::Byte(StringByte { byte, next: i + 1 }))
 }
 
 #[tactic(auto, using(crate::proofs::QuoteLaws::doubles))]
@@ -75,7 +83,7 @@ fn double_piece(s: &[u8], i: usize, line: u32) -> Result<Piece, Refusal>
     match byte {
         b'"' => Ok(Piece::Shut { next }),
         b'\\' => escape_piece(s, next, line),
-        _ => Ok(Piece::Byte { byte, next }),
+        _ => Ok(Piece::Byte(StringByte { byte, next })),
     }
 }
 
@@ -88,13 +96,13 @@ fn single_piece(s: &[u8], i: usize, line: u32) -> Result<Piece, Refusal>
     let &byte = s.get(i).ok_or(Refusal::QuoteOpen { line })?;
     let next = i + 1;
     if byte != b'\'' {
-        return Ok(Piece::Byte { byte, next });
+        return Ok(Piece::Byte(StringByte { byte, next }));
     }
     match s.get(next) {
-        Some(b'\'') => Ok(Piece::Byte {
+        Some(b'\'') => Ok(Piece::Byte(StringByte {
             byte,
             next: next + 1,
-        }),
+        })),
         _ => Ok(Piece::Shut { next }),
     }
 }
@@ -118,8 +126,8 @@ fn span_of(string: InQuotes<'_>) -> Result<Span, Refusal>
     let mut size = 0;
     loop {
         match piece_at(string, place)? {
-            Piece::Byte { byte: _, next } => {
-                place = next;
+            Piece::Byte(piece) => {
+                place = piece.next;
                 size += 1;
             }
             Piece::Shut { next } => return Ok(Span { next, size }),
@@ -136,9 +144,9 @@ fn unquote(string: InQuotes<'_>, out: &mut [u8])
     let mut place = string.from;
     for slot in out.iter_mut() {
         match piece_at(string, place) {
-            Ok(Piece::Byte { byte, next }) => {
-                *slot = byte;
-                place = next;
+            Ok(Piece::Byte(piece)) => {
+                *slot = piece.byte;
+                place = piece.next;
             }
             Ok(Piece::Shut { next: _ }) => return,
             Err(_) => return,
@@ -175,6 +183,8 @@ fn put_content(string: InQuotes<'_>, span: Span, writer: &mut Writer<'_>)
 
 /// The string behind an opening quote, which stands before `i`. It is the same in a key's place. A string that does not end is refused,
 /// then an escape that is cut or not known, and then one for which there is no room.
+// Not inlined: among the rest of a value its loops lack registers.
+#[inline(never)]
 pub fn quoted(
     quote: Quote,
     s: &[u8],

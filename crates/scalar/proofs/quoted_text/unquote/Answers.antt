@@ -11,8 +11,8 @@ pub loop-slot-preserved : goal.loop-slot-preserved
 loop-slot-preserved c =
     let l = c.loop-slot in
     let a = c.args in
-    let b = c.in-Ok-Byte.byte in
-    let n = c.in-Ok-Byte.next in
+    let b = c.in-Ok-Byte.piece.byte in
+    let n = c.in-Ok-Byte.piece.next in
     let k = λ (cap : ℕ). let f = quoted_of a.string.quote cap a.string.line in
     subst (λ (r : Result Piece Refusal). ReadsPiece f f cap a.string.line a.string.s.now l.place r) (c.in-Ok-Byte.is ∙ ap Ok c.in-Ok-Byte.field-0-is) (c.piece_at.ensures cap) in (
       (k 0).2,
